@@ -16,7 +16,7 @@ use Rattle.board_rule.specs.buffers.BufferReads.{HasPool}
 use Rattle.board_rule.specs.buffers.BlockSteps.{fill_cycle, StoresReaders, readers_stored}
 use Rattle.board_rule.proofs.buffers.HolderLemmas.{take_less, pool_there}
 use Rattle.io_areas.specs.Writing.{IsAtPool}
-use Rattle.io_areas.proofs.PoolLemmas.{has_block}
+use Rattle.io_areas.proofs.AtPoolLemmas.{has_block}
 use Rattle.io_areas.proofs.KeptLemmas.{IsKept, at_again}
 
 module _ (p : BoardLayout) where

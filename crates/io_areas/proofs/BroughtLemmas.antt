@@ -16,7 +16,7 @@ use Rattle.board_rule.specs.buffers.EndViews.{no_pool, pool_at, pool_of}
 use Rattle.board_rule.specs.buffers.ReaderSteps.{read_cycle, samples_read}
 use Rattle.io_areas.specs.Reading.{IsHolding, IsClamped, stamp_brought, brought}
 use Rattle.io_areas.specs.Quanta.{quantum_of}
-use Rattle.io_areas.proofs.SampleLemmas.{IsShort, IsReadTo}
+use Rattle.io_areas.proofs.SampleWordsLemmas.{IsShort, IsReadTo}
 
 -- the list where the test holds, else zeros: told by its elements
 told_by : (b : Bool) (xs ys : List ℤ) (n : ℕ) → (b ≡ true → length xs ≡ n) → length ys ≡ n

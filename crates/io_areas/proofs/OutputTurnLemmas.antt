@@ -24,10 +24,10 @@ use Rattle.io_areas.specs.OutputTurn.{MayWriteOutput, HasWrittenOutput}
 use Rattle.io_areas.specs.working.OutputSteps.{AreMade, IsLoadedNow, IsPublishedNow}
 use Rattle.io_areas.specs.OutputAnswer.{IsReclaimed}
 use Rattle.io_areas.proofs.KeptLemmas.{IsKept, at_again}
-use Rattle.io_areas.proofs.WriterEndsLemmas.{kept, same_cycle, writer_again}
+use Rattle.io_areas.proofs.OutputStepsLemmas.{kept, same_cycle, writer_again}
 use Rattle.io_areas.proofs.BlockLemmas.{here, else}
-use Rattle.io_areas.proofs.RefillLemmas.{IsRefilled, refilled, refill_kept, refill_more, reclaim_refills, reclaimed_by}
-use Rattle.io_areas.proofs.PoolLinkLemmas.{of_pool}
+use Rattle.io_areas.proofs.RefilledLemmas.{IsRefilled, refilled, refill_kept, refill_more, reclaim_refills, reclaimed_by}
+use Rattle.io_areas.proofs.PooledBoardLemmas.{of_pool}
 use Rattle.io_areas.proofs.FreeBlocksLemmas.{AreBack, AreListed, AreOthers, taken, unfilled, is_reclaimed, all_back, all_listed, refreed}
 
 abbrev links_of : BoardLayout → ℕ → List ℕ

@@ -3,7 +3,7 @@ use Rattle.board_rule.specs.declared.view.View.{View}
 use Rattle.board_rule.specs.Layout.{layout_of}
 use Rattle.io_areas.specs.Writing.{number_given}
 use Rattle.io_areas.specs.working.OutputSteps.{AreMade, IsLoadedNow}
-use Rattle.io_areas.proofs.WriterEndsLemmas.{not_before, next_made, may_load, loaded_is, same_given}
+use Rattle.io_areas.proofs.OutputStepsLemmas.{not_before, next_made, may_load, loaded_is, same_given}
 use Rattle.io_areas.proofs.output_turn.load_all.Goals as goal
 
 pub load_for_write-given-requires-clause-phase : goal.load_for_write-given-requires-clause-phase

@@ -2,7 +2,7 @@ use Rattle.std.proofs.Common.{◌+◌, ◌∙◌, ℕ, sym, subst, get_or, take}
 use Rattle.board_rule.specs.declared.view.View.{View}
 use Rattle.board_rule.specs.Layout.{layout_of}
 use Rattle.io_areas.specs.working.OutputSteps.{AreMade, IsPublishedNow}
-use Rattle.io_areas.proofs.WriterEndsLemmas.{not_before, next_made, may_publish, published_is}
+use Rattle.io_areas.proofs.OutputStepsLemmas.{not_before, next_made, may_publish, published_is}
 use Rattle.io_areas.proofs.output_turn.publish_all.Goals as goal
 
 pub store_have_data-requires-clause-phase : goal.store_have_data-requires-clause-phase

@@ -5,7 +5,7 @@ use Rattle.board_rule.specs.buffers.WriterSteps.{LoadsAsWriter, StoresHave}
 use Rattle.io_areas.specs.Writing.{number_given}
 use Rattle.io_areas.specs.OutputAnswer.{last_of}
 use Rattle.io_areas.specs.working.OutputSteps.{AreMade, IsPublishedNow}
-use Rattle.io_areas.proofs.PoolLinkLemmas.{some_link, once}
+use Rattle.io_areas.proofs.PooledBoardLemmas.{some_link, once}
 use Rattle.io_areas.proofs.OutputTurnLemmas as turn
 use Rattle.io_areas.proofs.OutputTurnLemmas.{may_load_all, begun, obtained, emitted}
 use Rattle.io_areas.proofs.output_turn.write_output.Goals as goal

@@ -2,7 +2,7 @@ use Rattle.std.proofs.Common.{◌∙◌, ap}
 use Rattle.board_rule.specs.declared.view.View.{View}
 use Rattle.board_rule.specs.Layout.{layout_of}
 use Rattle.board_rule.specs.buffers.ReaderSteps.{need_stored}
-use Rattle.io_areas.proofs.EndLemmas.{gives_back}
+use Rattle.io_areas.proofs.GivesBackLemmas.{gives_back}
 use Rattle.io_areas.proofs.reading.give_back.Goals as goal
 
 pub returns-clause-knows : goal.returns-clause-knows

@@ -4,7 +4,7 @@ use Rattle.board_rule.specs.Layout.{layout_of}
 use Rattle.board_rule.specs.buffers.SampleWords.{packed, IsTable}
 use Rattle.board_rule.specs.buffers.EndViews.{pool_at, pool_of}
 use Rattle.board_rule.specs.buffers.ReaderSteps.{ReadsBlock, LoadsSample, sample_loaded, samples_read}
-use Rattle.io_areas.proofs.SampleLemmas.{IsReadTo, length-spread, spread_more}
+use Rattle.io_areas.proofs.SampleWordsLemmas.{IsReadTo, length-spread, spread_more}
 use Rattle.io_areas.specs.Reading.{IsClamped}
 use Rattle.io_areas.proofs.BroughtLemmas.{all_short, brought_whole, brought_clamped}
 use Rattle.io_areas.proofs.ReadingLemmas.{loaded_to, may_load, loads_more, samples_same, expect_same, all_is}

@@ -2,7 +2,7 @@ use Rattle.std.proofs.Common.{◌≡◌, ◌*◌, ◌<◌, length}
 use Rattle.board_rule.specs.Layout.{layout_of}
 use Rattle.board_rule.specs.buffers.SampleWords.{IsTable}
 use Rattle.board_rule.specs.buffers.ReaderSteps.{samples_read}
-use Rattle.io_areas.proofs.SampleLemmas.{IsReadTo}
+use Rattle.io_areas.proofs.SampleWordsLemmas.{IsReadTo}
 use Rattle.io_areas.proofs.ReadingLemmas.{loaded_to}
 use Rattle.io_areas.proofs.reading.read.Given as goal
 

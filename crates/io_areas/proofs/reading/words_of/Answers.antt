@@ -3,7 +3,7 @@ use Rattle.pw_graph.specs.Pools.{pools_of}
 use Rattle.board_rule.specs.Layout.{layout_of}
 use Rattle.board_rule.specs.buffers.EndViews.{pool_at}
 use Rattle.io_areas.specs.Quanta.{quantum_of}
-use Rattle.io_areas.proofs.PoolLemmas.{words_of_quantum}
+use Rattle.io_areas.proofs.AtPoolLemmas.{words_of_quantum}
 use Rattle.io_areas.proofs.reading.words_of.Goals as goal
 
 pub returns-clause-is : goal.returns-clause-is

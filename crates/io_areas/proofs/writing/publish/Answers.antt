@@ -4,7 +4,7 @@ use Rattle.board_rule.specs.Layout.{layout_of}
 use Rattle.board_rule.specs.buffers.EndViews.{pool_of}
 use Rattle.board_rule.specs.buffers.BufferReads.{IsFirstFilled}
 use Rattle.io_areas.specs.Writing.{IsNew}
-use Rattle.io_areas.proofs.PoolLemmas.{one_first}
+use Rattle.io_areas.proofs.AtPoolLemmas.{one_first}
 use Rattle.io_areas.proofs.writing.publish.Goals as goal
 
 pub returns-clause-published : goal.returns-clause-published

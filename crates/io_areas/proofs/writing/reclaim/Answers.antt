@@ -3,7 +3,7 @@ use Rattle.board_rule.specs.declared.view.View.{View}
 use Rattle.board_rule.specs.Layout.{layout_of, first}
 use Rattle.board_rule.specs.buffers.BlockSteps.{fill_cycle}
 use Rattle.board_rule.specs.buffers.ReclaimSteps.{readers_loaded}
-use Rattle.io_areas.proofs.PoolLemmas.{has_block}
+use Rattle.io_areas.proofs.AtPoolLemmas.{has_block}
 use Rattle.io_areas.proofs.writing.reclaim.Goals as goal
 
 pub returns-then-past-eq0-clause-reclaimed : goal.returns-then-past-eq0-clause-reclaimed
