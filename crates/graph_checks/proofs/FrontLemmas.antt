@@ -17,7 +17,7 @@ use Rattle.pw_graph.specs.declared.shape.Shape.{Shape}
 use Rattle.pw_graph.specs.History.{IsOfCycle, IsLegalCycle, AreJoined, epoch_cycles, cycles_of, IsLegalHistory}
 use Rattle.pw_graph.specs.working.HistoryFronts.{is_end, LeavesOver, IsNoFront}
 
--- no End stands inside a legal cycle
+-- no End is inside a legal cycle
 no_end : (shape : Shape) (events : List Event) (cycle : ℕ) (e : Event) → IsOfCycle shape events cycle e → is_end e ≡ false
 no_end shape events cycle (Begin c) h = absurd h
 no_end shape events cycle (Start c n) h = refl
@@ -142,7 +142,7 @@ module _ (front next : List (Shape × ℕ)) (es mid : List Event) (h : LeavesOve
         ((h.same (next ++ more)).0 (subst (λ cs. AreJoined cs es) (append_assoc front next more) j));
   }
 
--- what is no front begins none
+-- what is not a front begins none
 pub no_front_more : (front next : List (Shape × ℕ)) (es : List Event) → IsNoFront front es → IsNoFront (front ++ next) es
 no_front_more front next es h = record {
   never = λ more j. h.never (next ++ more)

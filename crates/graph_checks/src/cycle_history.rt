@@ -35,14 +35,14 @@ fn is_tick(event: &Event) -> bool
     matches!(event, Event::Tick { .. })
 }
 
-// Where a node's Start stands, if it does.
+// Where a node's Start is, if there is one.
 fn find_start(events: &[Event], cycle: u64, node: u32) -> Option<usize>
     ensures { result ≡ position (is_start cycle node) events.now }
 {
     events.iter().position(|e| is_start(e, cycle, node))
 }
 
-// Where a node's Start stands; past the end where it does not.
+// Where a node's Start is; past the end where there is none.
 #[tactic(auto, using(crate::proofs::HistoryLemmas::place_or_end))]
 fn start_place(events: &[Event], cycle: u64, node: u32) -> usize
     ensures { result ≡ start_place events.now cycle node }
@@ -50,14 +50,14 @@ fn start_place(events: &[Event], cycle: u64, node: u32) -> usize
     find_start(events, cycle, node).unwrap_or(events.len())
 }
 
-// Where a node's Finish stands, if it does.
+// Where a node's Finish is, if there is one.
 fn find_finish(events: &[Event], cycle: u64, node: u32) -> Option<usize>
     ensures { result ≡ position (is_finish cycle node) events.now }
 {
     events.iter().position(|e| is_finish(e, cycle, node))
 }
 
-// Where a node's Finish stands; past the end where it does not.
+// Where a node's Finish is; past the end where there is none.
 #[tactic(auto, using(crate::proofs::HistoryLemmas::place_or_end))]
 fn finish_place(events: &[Event], cycle: u64, node: u32) -> usize
     ensures { result ≡ finish_place events.now cycle node }
@@ -65,14 +65,14 @@ fn finish_place(events: &[Event], cycle: u64, node: u32) -> usize
     find_finish(events, cycle, node).unwrap_or(events.len())
 }
 
-// Where the Tick stands, if there is one.
+// Where the Tick is, if there is one.
 fn find_tick(events: &[Event]) -> Option<usize>
     ensures { result ≡ position (is_tick) events.now }
 {
     events.iter().position(is_tick)
 }
 
-// Where the Tick stands; past the end where there is none.
+// Where the Tick is; past the end where there is none.
 #[tactic(auto, using(crate::proofs::HistoryLemmas::place_or_end))]
 fn tick_place(events: &[Event]) -> usize
     ensures { result ≡ tick_place events.now }
@@ -110,7 +110,7 @@ fn all_late(shape: &Shape, events: &[Event], cycle: u64, late: u64) -> bool
     true
 }
 
-// Whether an event may stand between Begin and End.
+// Whether an event may be between Begin and End.
 fn is_of_cycle(shape: &Shape, events: &[Event], in_cycle: u64, event: &Event) -> bool
     ensures { IsTrue result ↔ IsOfCycle shape.now events.now in_cycle event.now }
 {
@@ -205,7 +205,7 @@ fn keeps_order(shape: &Shape, events: &[Event], cycle: u64) -> bool
     all_start_last(shape, events, cycle)
 }
 
-// Whether each event may stand between Begin and End.
+// Whether each event may be between Begin and End.
 fn all_of_cycle(shape: &Shape, events: &[Event], cycle: u64) -> bool
     ensures { IsTrue result ↔ All (IsOfCycle shape.now events.now cycle) events.now }
 {

@@ -46,14 +46,14 @@ fn is_end(event: &Event) -> bool
     matches!(event, Event::End { .. })
 }
 
-// Where the first End stands.
+// Where the first End is.
 fn find_end(events: &[Event]) -> Option<usize>
     ensures { result ≡ position is_end events.now }
 {
     events.iter().position(is_end)
 }
 
-// What is left after the cycle's part, if that stands first and is legal.
+// What is left after the cycle's part, if that is first and is legal.
 fn after_cycle<'a>(shape: &Shape, cycle: u64, events: &'a [Event]) -> Option<&'a [Event]>
     ensures { MatchOption result (IsNoFront ((shape.now, cycle) ∷ []) events.now)
         (λ rest. LeavesOver ((shape.now, cycle) ∷ []) events.now rest.now) }
@@ -67,7 +67,7 @@ fn after_cycle<'a>(shape: &Shape, cycle: u64, events: &'a [Event]) -> Option<&'a
     }
 }
 
-// What is left after the parts of the epoch's cycles, if those stand first and are legal.
+// What is left after the parts of the epoch's cycles, if those are first and are legal.
 fn after_epoch<'a>(shape: &Shape, events: &'a [Event]) -> Option<&'a [Event]>
     ensures { MatchOption result (IsNoFront (epoch_cycles shape.now shape.now.cycles) events.now)
         (λ rest. LeavesOver (epoch_cycles shape.now shape.now.cycles) events.now rest.now) }

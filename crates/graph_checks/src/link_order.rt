@@ -12,8 +12,8 @@ fn is_none_left(left: &[bool]) -> bool
 }
 
 /// Whether some order of the nodes rises along each link that is not delayed. Takes no memory.
-/// Nodes are taken away one after the other, each when no such link comes to it from one that is
-/// left.
+/// Nodes are taken away one after the other, each when no such link leads to it from a remaining
+/// one.
 pub(crate) fn has_order(links: &[ShapeLink]) -> bool
     requires { All IsWithinNodes links.now }
     ensures { IsTrue result ↔ HasOrder links.now }

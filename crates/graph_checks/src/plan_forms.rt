@@ -11,7 +11,7 @@ use crate::dependencies::has_node;
 use crate::kind_ranges::{is_sink_or_meter, may_have_channels, may_have_rate, shares_channels};
 use pw_graph::{Epoch, Kind, Plan, PortForm, PortId, ShapeLink, ShapeNode, is_before, is_sink};
 
-/// The kind of a node, if the number is a place; a number that is none counts as the dummy.
+/// The kind of node `n`; `Dummy` if there is no such node.
 pub(crate) fn kind_at(plan: &Plan, node: u32) -> Option<&Kind>
     ensures { MatchOption result (kind_at plan.now node ≡ Kind.Dummy)
         (λ kind. kind.now ≡ kind_at plan.now node) }
@@ -151,7 +151,7 @@ fn all_shared(plan: &Plan, forms: &[PortForm]) -> bool
     true
 }
 
-// Whether each of these stands before a form.
+// Whether each of these is before a form.
 fn is_after(earlier: &[PortForm], form: &PortForm) -> bool
     ensures { IsTrue result ↔ All (λ f. IsTrue (is_before f.port form.now.port)) earlier.now }
 {

@@ -89,7 +89,7 @@ fn is_told_in(plan: &Plan, j: usize, a: &PortForm) -> bool
         || is_last_named(plan, j, a.port.node, a.channels)
 }
 
-// Whether a form of epoch i is kept and told.
+// Whether a form of epoch i is kept and reported.
 fn is_kept_form(plan: &Plan, i: usize, a: &PortForm) -> bool
     requires { i < length plan.now.epochs }
     ensures { IsTrue result ↔ IsKeptForm plan.now i a.now }
@@ -97,7 +97,7 @@ fn is_kept_form(plan: &Plan, i: usize, a: &PortForm) -> bool
     keeps_form(plan, i, a) && keeps_sink(plan, i, a) && is_told_in(plan, i, a)
 }
 
-// Whether each of these forms of epoch i is kept and told.
+// Whether each of these forms of epoch i is kept and reported.
 fn are_kept_forms(plan: &Plan, i: usize, forms: &[PortForm]) -> bool
     requires { i < length plan.now.epochs }
     ensures { IsTrue result ↔ All (IsKeptForm plan.now i) forms.now }
@@ -110,7 +110,7 @@ fn are_kept_forms(plan: &Plan, i: usize, forms: &[PortForm]) -> bool
     true
 }
 
-// Whether each form of epoch i is kept and told.
+// Whether each form of epoch i is kept and reported.
 fn keeps_epoch(plan: &Plan, i: usize) -> bool
     requires { i < length plan.now.epochs }
     ensures { IsTrue result ↔ KeepsEpoch plan.now i }
@@ -118,7 +118,7 @@ fn keeps_epoch(plan: &Plan, i: usize) -> bool
     are_kept_forms(plan, i, epoch_at(plan, i).forms.as_slice())
 }
 
-/// Whether each form of each epoch is kept and told.
+/// Whether each form of each epoch is kept and reported.
 pub(crate) fn keeps_all(plan: &Plan) -> bool
     ensures { IsTrue result ↔ ((i : ℕ) → i < length plan.now.epochs
         → KeepsEpoch plan.now i) }

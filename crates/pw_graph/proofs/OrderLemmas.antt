@@ -1,4 +1,5 @@
--- Laws of `specs/LinkOrder.antt`: nodes are taken away one after the other, each when no link comes to it from one that is left.
+-- Laws of `specs/LinkOrder.antt`: nodes are taken away one after the other, each when no link leads
+-- to it from a remaining one.
 use Rattle.std.proofs.Common.{inl, inr, ◌≡◌, ℕ, zero, suc, ◌<◌, ◌==◌, ◌&&◌, Bool, true, false, cond, not, List, length, get_or, set, refl}
 use Rattle.std.proofs.Common.{sym, ◌∙◌, ap, subst, arith, get_or-set_other, replicate, eqb}
 use mathlib.Core.Logic.{dite}
@@ -16,8 +17,8 @@ use Rattle.pw_graph.specs.LinkOrder.{HasOrder, is_blocked, IsStuck, IsFree, IsWi
 abbrev pub has : List Bool → ℕ → Bool
 has left n = get_or left n false
 
--- those that are gone have a rank below the count of rounds, and each link that is not delayed and comes to one of them comes from one of
--- them, and rises
+-- those that are gone have a rank below the count of rounds, and each link that is not delayed and
+-- leads to one of them leads from one of them, and rises
 pub record IsPlaced (links : List ShapeLink) (left : List Bool) : Type 0 where
   pub round : ℕ
   pub rank : ℕ → ℕ
@@ -69,7 +70,7 @@ module _ (links : List ShapeLink) (left : List Bool) (n : ℕ) (long : length le
   goes : (m : ℕ) → has (set left n false) m ≡ false → m ≢ n → has left m ≡ false
   goes m gone ne = sym (get_or-set_other left n m false false ne) ∙ gone
 
-  -- no link that is not delayed comes to it from one that is left
+  -- no link that is not delayed leads to it from a remaining one
   clear : (k : ℕ) (d : ShapeLink) → k < length links → (get_or links k d).delayed ≡ false → (get_or links k d).to.node ≡ n
       → has left (get_or links k d).from.node ≡ false
   clear k d lt here to = false_from_ne_true _ (λ t.
@@ -99,14 +100,14 @@ module _ (links : List ShapeLink) (left : List Bool) (n : ℕ) (long : length le
 all_gone : (left : List Bool) → All (λ b. b ≡ false) left → (n : ℕ) → has left n ≡ false
 all_gone left none n = elim (cases_lt n (length left)) [ inl lt ↦ none n false lt | inr ge ↦ get_or-eq_default left false ge ]
 
--- where none is left, the ranks are an order
+-- where no node remains, the ranks are an order
 pub ends : (links : List ShapeLink) (left : List Bool) → IsPlaced links left → All (λ b. b ≡ false) left → HasOrder links
 ends links left p none = record {
   rank = p.rank;
   rises = λ k d lt here. (p.rises k d lt here (all_gone left none _)).1;
 }
 
--- where there is an order and each that is left is blocked, none is left: there is no least one
+-- where there is an order and each remaining one is blocked, no node remains: there is no least one
 least : (links : List ShapeLink) (left : List Bool) → All IsWithinNodes links → (h : HasOrder links) → IsStuck links left → (k n : ℕ)
     → n < 64 → h.rank n < k → has left n ≡ true → ⊥
 least links left within h stuck zero n small lt here = absurd (omega arith)

@@ -1,6 +1,7 @@
 -- Laws of `specs/Dependencies.antt`: required counts are those of the dependencies, targets and dependencies are inverse, and in a sound
 -- shape
--- an order rises from each node to those that it precedes, so that no walk along links that are not delayed comes back.
+-- an order rises from each node to those that it precedes, so that no walk along links that are not
+-- delayed leads back.
 use Rattle.std.proofs.Common.{◌≡◌, ℕ, zero, suc, ◌<◌, ◌≤◌, ◌==◌, ◌&&◌, ◌||◌, ◌↔◌, inl, inr, Bool, true, false, cond, not}
 use Rattle.std.proofs.Common.{List, [], ◌∷◌, length, get_or, refl, sym, ◌∙◌, ap, subst, arith}
 use mathlib.Core.Logic.{dite}
@@ -99,7 +100,7 @@ module _ (shape : Shape) (h : HasOrder shape.links) where
   pub precedes_irreflexive : (n : ℕ) → ¬ Precedes shape n n
   precedes_irreflexive n p = let t = precedence_rises n n p in absurd (omega arith)
 
-  -- a walk goes up, and so never comes back
+  -- a walk goes up, and so never leads back
   walk_rises : (more m n : ℕ) → Walks shape more m n → h.rank m < h.rank n
   walk_rises zero m n w = along m n w
   walk_rises (suc more) m n w =

@@ -1,5 +1,5 @@
 -- The definitions at work: words of a board at the start, words of events, limits at their edges, forms that do not
--- fit a kind, bytes of blocks; by computation alone.
+-- fit a kind, bytes of blocks; by computation only.
 use Rattle.std.proofs.Common.{◌≡◌, ℕ, ◌<◌, true, false, List, [], ◌∷◌, map, ℤ, pos, refl, arith}
 use Rattle.pw_graph.specs.declared.ids.PortId.{PortId}
 use Rattle.pw_graph.specs.declared.event.Event.TheVariants.{Begin, Finish, Tick, End}
@@ -62,7 +62,7 @@ tick_of_cycle_seven = refl
 pub end_of_the_second_cycle : event_word_of (End 1) ≡ 517
 end_of_the_second_cycle = refl
 
--- LIMITS: the dummy alone, and four minutes of stereo at 48000 through a gain
+-- LIMITS: only the dummy, and four minutes of stereo at 48000 through a gain
 abbrev epoch : Shape → List PortForm → Epoch
 epoch s forms = record { shape = s; forms = forms; fresh = [] }
 

@@ -1,4 +1,4 @@
--- Where the events of a cycle stand in a history. Source: PipeWire's documentation, "Graph
+-- Where the events of a cycle are in a history. Source: PipeWire's documentation, "Graph
 -- Scheduling".
 use Rattle.std.specs.Prelude.{ℕ, ◌==◌, ◌&&◌, Bool, true, false, List}
 use Rattle.std.specs.List.{position_or_len}
@@ -17,7 +17,7 @@ abbrev pub is_tick : Event → Bool
 is_tick (Tick c late) = true
 is_tick _ = false
 
--- where a node's Start, its Finish, and the Tick stand; past the end, where they do not
+-- where a node's Start, its Finish, and the Tick are; past the end, where they are not
 abbrev pub start_place : List Event → ℕ → ℕ → ℕ
 start_place events cycle node = position_or_len (is_start cycle node) events
 

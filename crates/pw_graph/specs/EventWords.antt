@@ -1,5 +1,5 @@
--- Event words: how an event stands in one word of 64 bits, 0 where none is stored yet, and what is
--- read back from one.
+-- Event words: how an event is stored in one word of 64 bits, 0 where none is stored yet, and what
+-- is read back from one.
 -- Source: this project's own numbers; no public standard has them.
 use Rattle.std.specs.Prelude.{◌≡◌, ℕ, ◌+◌, ◌*◌, ◌/◌, ◌%◌, ◌^◌, ◌<◌, ◌≤◌, ◌==◌, if◌then◌else◌}
 use Rattle.pw_graph.specs.Limits.{dummy_node}
@@ -28,7 +28,7 @@ event_cycle (Finish cycle node) = cycle
 event_cycle (Tick cycle late) = cycle
 event_cycle (End cycle) = cycle
 
--- the late set of a Tick, which stands in a word of its own
+-- the late set of a Tick, which is stored in a word of its own
 abbrev pub event_late : Event → ℕ
 event_late (Begin cycle) = 0
 event_late (Start cycle node) = 0

@@ -30,7 +30,7 @@ pub record RunsOnce (events : List Event) (cycle node : ℕ) : Type 0 where
   pub finish : count_by (is_finish cycle node) events ≡ 1
   pub order : start_place events cycle node < finish_place events cycle node
 
--- where m precedes n, the Finish of m stands before the Start of n
+-- where m precedes n, the Finish of m is before the Start of n
 pub record KeepsOrder (shape : Shape) (events : List Event) (cycle : ℕ) : Type 0 where
   pub waits : (m n : ℕ) → Precedes shape m n
       → finish_place events cycle m < start_place events cycle n

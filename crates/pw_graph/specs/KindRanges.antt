@@ -32,7 +32,7 @@ IsInRange Sink = Unit {0}
 IsInRange Meter = Unit {0}
 IsInRange Dummy = ⊥
 
--- which channels a port may have, by the kind alone: ports are numbered inputs first
+-- which channels a port may have, by the kind only: ports are numbered inputs first
 abbrev pub MayHaveChannels : Kind → ℕ → ℕ → Type 0
 MayHaveChannels (Square rate channels period amp) port n = n ≡ channels
 MayHaveChannels (Map channels list) zero n = n ≡ channels

@@ -1,4 +1,4 @@
--- The words of a board: where each stands in the table of a shape, and what it holds at the start.
+-- The words of a board: where each is in the table of a shape, and what it holds at the start.
 -- Source: spa/node/io.h, spa_io_buffers, and of a delayed link spa_io_async_buffers; else ours.
 use Rattle.std.specs.Prelude.{ℕ, ◌+◌, ◌-◌, ◌*◌, ◌%◌, ◌==◌, List, [], ◌∷◌, ◌++◌, length, take, replicate, sum_by, count_by}
 use Rattle.std.specs.Prelude.{unwrap_or, option_map, slice_get, if◌then◌else◌}
@@ -26,7 +26,7 @@ event_count shape = shape.cycles * (2 * node_count shape + 3)
 abbrev pub pool_words : PoolShape → ℕ
 pool_words pool = pool.blocks * (1 + pool.words)
 
--- WHERE EACH STANDS: nodes, links and pools by place, areas 0 and 1, cycles from the first
+-- WHERE EACH IS: nodes, links and pools by place, areas 0 and 1, cycles from the first
 abbrev pub ticket_place : ℕ
 ticket_place = 0
 

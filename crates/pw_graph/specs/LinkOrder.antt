@@ -5,12 +5,12 @@ use Rattle.std.specs.List.{list_any}
 use Rattle.pw_graph.specs.declared.shape.ShapeLink.{ShapeLink}
 
 -- NO LOOP: some order of the nodes rises along each link that is not delayed, so that no walk along
--- them comes back
+-- them leads back
 pub record HasOrder (links : List ShapeLink) : Type 0 where
   pub rank : ℕ → ℕ
   pub rises : All (λ l. l.delayed ≡ false → rank l.from.node < rank l.to.node) links
 
--- while nodes are taken away: a link that is not delayed comes to the node from one that is left
+-- while nodes are taken away: a link that is not delayed leads to the node from a remaining one
 abbrev pub is_blocked : List ShapeLink → List Bool → ℕ → Bool
 is_blocked links left node = list_any (λ l. not l.delayed &&
     ((l.to.node == node) && slice_index_or left l.from.node false)) links

@@ -1,6 +1,6 @@
 -- A sound plan: its epochs follow one another, its shapes, nodes, links and forms agree, and the
 -- sums of the limits are kept.
--- Source: this project's. What it says of the waves of sources stands with the cycle function.
+-- Source: this project's. What is asked of the waves of sources is in cycle_model.
 use Rattle.std.specs.Prelude.{◌≡◌, ℕ, ◌+◌, ◌<◌, ◌≤◌, ◌⊎◌, List, [], ◌∷◌, length, All, Contains, slice_get, Some}
 use Rattle.pw_graph.specs.declared.kind.Kind.TheVariants.{Sink}
 use Rattle.pw_graph.specs.declared.ids.PortId.{PortId}

@@ -1,5 +1,5 @@
--- Words: how the status of a node and an io area stand in one word of 64 bits, and what is read
--- back from one.
+-- Words: how the status of a node and an io area are stored in one word of 64 bits, and what is
+-- read back from one.
 -- Source: spa/node/io.h, spa_io_buffers (SPA_STATUS_NEED_DATA, SPA_STATUS_HAVE_DATA,
 -- SPA_ID_INVALID); the rest is this project's.
 use Rattle.std.specs.Prelude.{◌≡◌, ℕ, ◌+◌, ◌-◌, ◌*◌, ◌/◌, ◌%◌, ◌^◌, ◌<◌, ◌≤◌}

@@ -1,5 +1,5 @@
-//! The node that may come next in an order: one that is left, and that no other of those that are
-//! left comes before.
+//! The node that may come next in an order: a remaining one, that no other remaining one
+//! precedes.
 ghost use Rattle.std.specs.Prelude.{◌≡◌, ℕ, false, MatchOption, IfSome, slice_index_or, length};
 ghost use Rattle.pw_graph.specs.LinkOrder.{is_blocked, IsStuck, IsFree, AreBlocked};
 
@@ -16,15 +16,15 @@ fn is_left(left: &[bool], node: u32) -> bool
     }
 }
 
-// Whether a link that is not delayed comes to the node from one that is left.
+// Whether a link that is not delayed leads to the node from a remaining one.
 fn is_blocked(links: &[ShapeLink], left: &[bool], node: u32) -> bool
     ensures { result ≡ is_blocked links.now left.now node }
 {
     links.iter().any(|link| !link.delayed && link.to.node == node && is_left(left, link.from.node))
 }
 
-/// The first node that is left and to which no link that is not delayed comes from one that is
-/// left, if there is one.
+/// The next node in topological order: the first remaining one that no remaining one
+/// precedes, if there is one.
 /// `left` says of each of the 64 numbers whether that node is left. Takes no memory; cost: for each
 /// node that is left one look at each link.
 pub fn find_free(links: &[ShapeLink], left: &[bool]) -> Option<usize>

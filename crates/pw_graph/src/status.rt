@@ -1,7 +1,7 @@
 //! The statuses of a node and of an io area, with their numbers.
 ghost use Rattle.std.specs.Prelude.{◌≡◌, ℕ, ◌<◌, ◌≢◌, MatchOption};
 
-/// Where a node stands in a cycle.
+/// The status of a node in a cycle.
 #[derive(Clone, Copy, Debug, PartialEq, Eq, Drop)]
 pub enum ActivationStatus {
     /// It waits for its dependencies.

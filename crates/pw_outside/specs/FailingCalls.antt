@@ -11,7 +11,7 @@ use Rattle.pw_outside.specs.declared.in_memory.mem_sink.MemSink.{MemSink}
 use Rattle.pw_outside.specs.Files.{stored}
 use Rattle.pw_outside.specs.InMemory.{mem_names, SameFiles, SameFaults, SameSink}
 
--- a count of 64 bits after one more; it stands still at its end
+-- a count of 64 bits after one more; it stays at its end
 abbrev pub one_more : ℕ → ℕ
 one_more count = min (count + 1) (2 ^ 64 - 1)
 
@@ -31,7 +31,7 @@ HasLoaded old new (Err Failed) = Contains old.failing_loads (one_more old.loads)
     }) new
 HasLoaded old new (Err Memory) = SameFiles old new
 
--- A STORE that is to fail leaves as many first bytes as were told
+-- A STORE that is to fail leaves as many first bytes as the object was set to leave
 abbrev pub HasStored : List ℕ → List ℕ → MemFiles → MemFiles
     → Result (Unit {0}) FileFail → Type 0
 HasStored name bytes old new (Ok done) = (kept_by old.failing_stores (one_more old.stores) ≡ None)

@@ -11,7 +11,7 @@ use Rattle.pw_outside.specs.declared.files.FileFail.TheVariants.{Failed, Memory}
 abbrev pub Names : Type 0
 Names = List ℕ → Option (List ℕ)
 
--- the same, where it is told
+-- the same, where the object reports it
 abbrev pub Held : Type 0
 Held = Option Names
 
@@ -19,16 +19,16 @@ Held = Option Names
 abbrev pub nothing : Names
 nothing name = None
 
--- the names that are told; where nothing is told, none
+-- the names that are reported; where nothing is reported, no name
 abbrev pub names_in : Held → Names
 names_in (Some names) = names
 names_in None = nothing
 
--- the bytes stand under the name, and all other names are as before
+-- the bytes are stored under the name, and all other names are as before
 abbrev pub stored : List ℕ → List ℕ → Names → Names
 stored name bytes names = λ other. if bytes_eq other name then Some bytes else names other
 
--- a load of a name, by what stands under it and the limit
+-- a load of a name, by what is stored under it and the limit
 abbrev pub IsLoaded : Option (List ℕ) → ℕ → Result Loaded FileFail → Type 0
 IsLoaded stands limit (Ok (Whole bytes)) = stands ≡ Some bytes
 IsLoaded stands limit (Ok Absent) = stands ≡ None
@@ -36,7 +36,7 @@ IsLoaded stands limit (Ok TooLong) = (bytes : List ℕ) × (stands ≡ Some byte
     × (limit < length bytes)
 IsLoaded stands limit (Err fail) = Unit {0}
 
--- what was loaded is within the limit, told or not
+-- what was loaded is within the limit, reported or not
 abbrev pub IsWithin : ℕ → Result Loaded FileFail → Type 0
 IsWithin limit (Ok (Whole bytes)) = length bytes ≤ limit
 IsWithin limit (Ok Absent) = Unit {0}
@@ -44,7 +44,7 @@ IsWithin limit (Ok TooLong) = Unit {0}
 IsWithin limit (Err fail) = Unit {0}
 
 -- after a store: all bytes under the name, a prefix of them, or all as before; where nothing was
--- told, nothing is
+-- reported, nothing is
 abbrev pub IsStored : List ℕ → List ℕ → Held → Held → Result (Unit {0}) FileFail
     → Type 0
 IsStored name bytes old new (Ok done) = new ≡ option_map (stored name bytes) old

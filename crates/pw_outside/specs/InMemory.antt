@@ -12,7 +12,7 @@ use Rattle.pw_outside.specs.declared.in_memory.sure_files.SureFiles.{SureFiles}
 use Rattle.pw_outside.specs.declared.in_memory.sure_sink.SureSink.{SureSink}
 use Rattle.pw_outside.specs.Files.{Names, nothing}
 
--- what stands under each name of a map
+-- what is stored under each name of a map
 abbrev pub names_of : BTreeMap (Vec ℕ Global) (List ℕ) → Names
 names_of map name = get_by (λ key. slice_cmp nat_cmp name key.items) map
 
@@ -28,7 +28,7 @@ mem_given sink = sink.bytes
 abbrev pub sure_given : SureSink → List ℕ
 sure_given sink = sink.bytes
 
--- nothing is held, no call has failed, and none is to fail
+-- nothing is held, no call has failed, and no call is to fail
 pub record IsNewFiles (files : MemFiles) : Type 0 where
   pub holds : mem_names files ≡ nothing
   pub faults : (files.load_faults ≡ 0) × (files.store_faults ≡ 0)

@@ -1,4 +1,4 @@
--- Output: the bytes that were given, where that is told. Source: this project's own.
+-- Output: the bytes written so far, if the object reports them. Source: this project's own.
 use Rattle.std.specs.Prelude.{◌≡◌, ℕ, List, ◌++◌, take, Option, option_map, Result, Ok, Err}
 use Rattle.pw_outside.specs.declared.files.FileFail.{FileFail}
 use Rattle.pw_outside.specs.declared.files.FileFail.TheVariants.{Failed, Memory}
@@ -14,7 +14,7 @@ Gave text old new = new ≡ option_map (λ given. given ++ text) old
 abbrev pub GavePart : List ℕ → Given → Given → Type 0
 GavePart text old new = (kept : ℕ) × Gave (take kept text) old new
 
--- after a put: all bytes, a prefix of them, or none
+-- after a put: all bytes, a prefix of them, or no byte
 abbrev pub IsPut : List ℕ → Given → Given → Result (Unit {0}) FileFail → Type 0
 IsPut bytes old new (Ok done) = Gave bytes old new
 IsPut bytes old new (Err Failed) = GavePart bytes old new

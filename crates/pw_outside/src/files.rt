@@ -22,8 +22,8 @@ pub enum FileFail {
     Memory,
 }
 
-/// Files by name. Contracts see what is held, where that is told, and two counts of faults that
-/// never fall.
+/// Files by name. Contracts see what is held, where the object reports it, and two counts of faults
+/// that never fall.
 pub trait Files {
     ghost use Rattle.pw_outside.specs.Files.{Held};
 
@@ -43,7 +43,7 @@ pub trait Files {
         ensures cause { HasCause (load_faults self.old) (load_faults self.new) result }
         ensures stores { store_faults self.new ≡ store_faults self.old };
 
-    /// Writes the bytes under the name. After `Failed` a prefix of them stands there, after
+    /// Writes the bytes under the name. After `Failed` a prefix of them is stored there, after
     /// `Memory` all is as before.
     fn store(&mut self, alloc: Global, name: &Text, bytes: &[u8]) -> Result<(), FileFail>
         ensures held { IsStored name.now bytes.now (held self.old) (held self.new) result }

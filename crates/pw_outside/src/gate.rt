@@ -1,6 +1,6 @@
 //! A hook that a caller gives, called between a node's Start and its work.
 
-/// Is told of each node that enters a cycle. It is shared between threads.
+/// Is called with each node that enters a cycle. It is shared between threads.
 pub trait Gate {
     /// The node begins its work in this cycle.
     fn enter(&self, node: u32, cycle: u32);

@@ -1,4 +1,4 @@
-//! The outside in memory: files and outputs that fail where they are told to, or never.
+//! The outside in memory: files and outputs that fail where they are set to, or never.
 
 pub mod mem_files;
 pub mod mem_sink;

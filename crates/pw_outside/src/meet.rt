@@ -7,7 +7,7 @@ use std::sync::atomic::{AtomicU64, Ordering};
 // How often a node looks for the other.
 const LOOKS: u32 = 100_000_000;
 
-/// Lets two nodes look for each other in each cycle. One thread alone cannot make them meet.
+/// Lets two nodes look for each other in each cycle. A single thread cannot make them meet.
 #[derive(Drop)]
 pub struct Meet {
     a: u32,

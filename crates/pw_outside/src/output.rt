@@ -6,8 +6,8 @@ ghost use Rattle.pw_outside.specs.Causes.{HasCause};
 use crate::files::FileFail;
 use std::alloc::Global;
 
-/// An output. Contracts see the bytes that were given, where that is told, and a count of faults
-/// that never falls.
+/// An output. Contracts see the bytes that were given, where the object reports them, and a count
+/// of faults that never falls.
 pub trait Sink {
     ghost use Rattle.pw_outside.specs.Output.{Given};
 
@@ -15,7 +15,7 @@ pub trait Sink {
 
     ghost faults: { Self → ℕ };
 
-    /// Puts all bytes. After `Failed` a prefix of them was given, after `Memory` none.
+    /// Puts all bytes. After `Failed` a prefix of them was given, after `Memory` no byte.
     fn put(&mut self, alloc: Global, bytes: &[u8]) -> Result<(), FileFail>
         ensures given { IsPut bytes.now (given self.old) (given self.new) result }
         ensures later { faults self.old ≤ faults self.new }

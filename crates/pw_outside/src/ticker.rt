@@ -1,7 +1,7 @@
 //! When a late check is due.
 ghost use Rattle.std.specs.Prelude.{◌≡◌, ℕ, ◌<◌, ◌≤◌, IsTrue, ◌↔◌};
 
-/// Tells, when asked, whether a late check is due. Its count of checks never falls.
+/// Answers, when asked, whether a late check is due. Its count of checks never falls.
 pub trait Ticker {
     ghost ticks: { Self → ℕ };
 

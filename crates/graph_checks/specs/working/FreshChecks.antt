@@ -45,7 +45,7 @@ pub record KeepsForm (plan : Plan) (i : ℕ) (a : PortForm) : Type 0 where
   pub later : (j : ℕ) → i < j → j < length plan.epochs → StaysFrom plan i j a.port.node
       → AgreesIn plan j a
 
--- after epoch i, none names the node
+-- after epoch i, no epoch names the node
 pub record IsKeptFrom (plan : Plan) (i node : ℕ) : Type 0 where
   pub never : (j : ℕ) → i < j → ¬ IsNamed plan j node
 

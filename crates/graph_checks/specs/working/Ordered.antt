@@ -8,7 +8,7 @@ use Rattle.pw_graph.specs.declared.shape.ShapeNode.{ShapeNode}
 use Rattle.pw_graph.specs.Dependencies.{waits}
 use Rattle.pw_graph.specs.History.{start_place, finish_place, RunsOnce}
 
--- where n waits for the work of m, the Finish of m stands before the Start of n
+-- where n waits for the work of m, the Finish of m is before the Start of n
 unfoldable pub IsOrdered : Shape → List Event → ℕ → ShapeNode → ShapeNode → Type 0
 IsOrdered shape events cycle n m = IsTrue (waits shape n.node m.node)
     → ¬ (m.node ≡ shape.driver)

@@ -1,7 +1,7 @@
--- Fronts, prefixes of a history: cycles whose parts stand first in a row of events, and what is
+-- Fronts, prefixes of a history: cycles whose parts are first in a row of events, and what is
 -- left after them.
--- Source: this project's; a part ends with its first End, so that a row of events is cut in one way
--- alone.
+-- Source: this project's; a part ends with its first End, so that a row of events is cut in just
+-- one way.
 use Rattle.std.specs.Prelude.{ℕ, List, ◌++◌, Bool, true, false, ◌↔◌}
 use Rattle.pw_graph.specs.declared.event.Event.{Event}
 use Rattle.pw_graph.specs.declared.event.Event.TheVariants.{End}

@@ -31,7 +31,7 @@ fn insert(map: &mut NameMap, alloc: Global, name: &[u8], bytes: &[u8]) -> Result
     }
 }
 
-/// The bytes stand under the name, and all other names are as before; after `Memory` all is as
+/// The bytes are stored under the name, and all other names are as before; after `Memory` all is as
 /// before.
 pub(crate) fn put(map: &mut NameMap, alloc: Global, name: &[u8], bytes: &[u8]) -> Result<(), Memory>
     ensures ok { OnOk result (names_of map.new ≡ stored name.now bytes.now (names_of map.old)) }
