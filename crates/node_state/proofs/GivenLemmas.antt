@@ -46,7 +46,7 @@ delayed_more zeros row more =
     ∙ ap₂ (λ x y. x ++ y) (take-append-le (length row) (zeros ++ row) more within)
     (ap (take (length more)) (drop-append-le (length row) (zeros ++ row) more within))
 
--- a line as long as all that comes gives what a longer one gives: silence
+-- a line as long as all that is received gives what a longer one gives: silence
 as_long : (x : List ℤ) (frames prepared long channels : ℕ) → long ≡ min frames prepared → length x ≤ prepared * channels
     → take (length x) (silence (frames * channels) ++ x) ≡ take (length x) (silence (long * channels) ++ x)
 as_long x frames prepared long channels is few = ⊎_elim

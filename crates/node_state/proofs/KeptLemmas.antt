@@ -1,4 +1,4 @@
--- Kept: after one quantum a state stands for what it stood for and the quantum behind it.
+-- Kept: after one quantum a state stands for what it stood for and the quantum after it.
 use Rattle.std.proofs.Common.{◌≡◌, ℕ, ◌+◌, ◌*◌, ◌%◌, ◌≤◌, ◌∙◌, min, max, List, ◌++◌, length, take, drop, ℤ, refl, sym, ap}
 use Rattle.std.proofs.Common.{ap₂, subst, arith, length-append, append_assoc, drop-drop, mul-le-mul_right, inl, inr}
 use Rattle.std.proofs.lemmas.Grind.{common_steps}

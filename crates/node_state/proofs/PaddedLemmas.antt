@@ -32,7 +32,7 @@ replicate_more (suc n) m z =
     let next : suc n + m ≡ suc (n + m) = omega arith in
     ap (λ k. replicate k z) next ∙ ap (λ t. z ∷ t) (replicate_more n m z)
 
--- the next samples stand behind the first
+-- the next samples are after the first
 pub padded_more : {X : Type 0} (w : List X) (n m i j l : ℕ) (z : X) → n ≤ i → n + m ≤ j → m ≤ l
     → take (n + m) (w ++ replicate j z) ≡ take n (w ++ replicate i z) ++ take m (drop n w ++ replicate l z)
 padded_more w zero m i j l z h g e =

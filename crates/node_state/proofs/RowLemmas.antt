@@ -32,7 +32,7 @@ filled_short xs ys h = ap (λ t. t ++ drop (length xs) ys) (take_all (length ys)
 pub filled_long : {X : Type 0} (xs ys : List X) → length ys ≤ length xs → filled_from xs ys ≡ take (length ys) xs
 filled_long xs ys h = ap (λ t. take (length ys) xs ++ t) (drop_of_length-le ys h) ∙ append-nil (take (length ys) xs)
 
--- what stands before and behind the place that has been reached
+-- what is before and after the place that has been reached
 filled_front : {X : Type 0} (xs ys : List X) (k : ℕ) → k ≡ min (length xs) (length ys) → take k (filled_from xs ys) ≡ take (length ys) xs
 filled_front xs ys k e = elim (cases_lt (length xs) (length ys)) [
   | inl h ↦

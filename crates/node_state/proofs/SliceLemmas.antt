@@ -20,7 +20,7 @@ as_many : {n m : ℕ} (row : List ℤ) → n ≡ m → IsNoneOr n row → IsNone
 as_many row e (inl none) = inl none
 as_many row e (inr all) = inr (all ∙ e)
 
--- none of no frame
+-- no samples of no frame
 none_of : {n m : ℕ} (row : List ℤ) → n ≡ 0 → IsNoneOr n row → IsNoneOr m row
 none_of row e (inl none) = inl none
 none_of row e (inr all) = inl (all ∙ e)
@@ -94,7 +94,7 @@ can_step (Sink s) quantum frames channels a b left right e room h =
     fits (inr none) = let n = h.0 ∙ ap (λ n. n * channels) none in omega (arith, n)
 can_step (Meter s) quantum frames channels a b left right e room h = (none_of left (omega arith) h.2, none_of right (omega arith) h.3)
 
--- no more than a quantum comes to a delay
+-- no more than a quantum goes to a delay
 abbrev pub BringsFew : KindState → ℕ → List ℤ → Type 0
 BringsFew (Delay s) n a = length a ≤ n
 BringsFew _ n a = Unit {0}

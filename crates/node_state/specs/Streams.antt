@@ -49,7 +49,7 @@ abbrev pub output_now : Kind → KindInputs → ℕ → ℕ → List ℤ
 output_now kind h output n = drop (length (kind_output kind h output) - n)
     (kind_output kind h output)
 
--- what is given behind what was given: the outputs of all quanta join to the kind's function of
+-- what is given after what was given: the outputs of all quanta join to the kind's function of
 -- whole streams
 abbrev pub Joins : Kind → KindInputs → KindInputs → ℕ → List ℤ → Type 0
 Joins kind before after output new = (length new ≡ 0)

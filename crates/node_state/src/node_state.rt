@@ -35,7 +35,7 @@ impl NodeState {
     ghost use Rattle.node_state.specs.StandsFor.{StandsFor, node_kind, kept_stream};
     ghost use Rattle.node_state.specs.Streams.{stream_kept_by, peak_kept_by};
 
-    /// A sink's stream so far: all that came to its input. Of every other kind nothing. Takes no
+    /// A sink's stream so far: all that its input received. Of every other kind nothing. Takes no
     /// memory.
     pub fn kept(&self) -> &[i16]
         ensures value { result.now ≡ kept_stream self.now }
@@ -45,7 +45,7 @@ impl NodeState {
         self.state.stream()
     }
 
-    /// The greatest absolute value that came to a meter's input so far, 0 to 32768. Of every other
+    /// The greatest absolute value that a meter's input received so far, 0 to 32768. Of every other
     /// kind 0. Takes no memory.
     pub fn greatest(&self) -> u32
         ensures { (h : KindInputs) → StandsFor self.now h

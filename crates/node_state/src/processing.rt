@@ -31,7 +31,7 @@ impl NodeState {
             → Joins (node_kind self.old) h
             (followed (node_quantum self.old) a.now b.now h) 1 right.new }
 
-        // It then stands for what it stood for and this quantum behind it.
+        // It then stands for what it stood for and this quantum after it.
         ensures stands { (h : KindInputs) → StandsFor self.old h
             → StandsFor self.new (followed (node_quantum self.old) a.now b.now h) }
         ensures frames { frames_so_far self.new ≡ frames_so_far self.old + node_quantum self.old }

@@ -8,7 +8,7 @@ use pw_lists::Items;
 use std::alloc::Global;
 
 impl NodeState {
-    /// Moves a sink's stream out, without a copy: all that came to its input. Of every other kind
+    /// Moves a sink's stream out, without a copy: all that its input received. Of every other kind
     /// it answers nothing. What is left of a sink is prepared for no frame. Takes no memory.
     pub fn take_kept(&mut self, alloc: Global) -> Items<i16>
         ensures value { result ≡ kept_stream self.old }

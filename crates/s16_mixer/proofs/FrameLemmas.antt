@@ -94,7 +94,7 @@ map_moved f g (suc n) a b h =
     let right : b + suc k ≡ b + 1 + k = omega arith in
     ap f left ∙ h (suc k) (omega (arith, lt)) ∙ ap g right))
 
--- frames of two rows, one behind the other
+-- frames of two rows, one after the other
 pub of_frames-add : (f g h : ℕ → ℕ → ℤ) (a m w : ℕ) → ((i j : ℕ) → i < a → j < w → f i j ≡ g i j)
     → ((i j : ℕ) → i < m → j < w → f (a + i) j ≡ h i j)
     → of_frames (a + m) w f ≡ of_frames a w g ++ of_frames m w h
@@ -122,7 +122,7 @@ of_frames-add f g h a m (suc v) left right =
     ap (at f) there ∙ ap₂ f row column ∙ right (k / w) (k % w) ((div-lt_iff_lt-mul {k = w} {x = k} {y = m} (omega arith)).1 lt)
     (mod-lt k (omega arith)) ∙ ap (at h) (sym k0)))
 
--- channels of two rows, one behind the other
+-- channels of two rows, one after the other
 pub picked_append : (channels : ℕ) (list : List ℕ) (xs ys : List ℤ) (a : ℕ) → 0 < channels → length xs ≡ a * channels
     → All (λ c. c < channels) list
     → picked channels list (xs ++ ys) ≡ picked channels list xs ++ picked channels list ys

@@ -20,7 +20,7 @@ lane_at n (suc c) xs (suc k) d h =
     let place : n + k * n ≡ suc k * n = omega arith in
     lane_at n c (drop n xs) k d (omega (arith, h)) ∙ ap (take n) (drop-drop (k * n) n xs ∙ ap (λ (m : ℕ). drop m xs) place)
 
--- a piece that is written over behind n others
+-- a piece that is written over after n others
 pub piece_written : {X : Type 0} (done ys piece : List X) (n w : ℕ) → length done ≡ n
     → put_mid n w (done ++ drop n ys) piece ≡ (done ++ piece) ++ drop (n + w) ys
 piece_written done ys piece n w h =

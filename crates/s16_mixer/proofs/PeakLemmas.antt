@@ -1,4 +1,4 @@
--- Peaks: of rows one behind the other, and of tops in several places.
+-- Peaks: of rows one after the other, and of tops in several places.
 use Rattle.std.proofs.Common.{◌≡◌, ℕ, ℤ, max, ◌∙◌, List, [], ◌∷◌, ◌++◌, length, map, fold, zip, refl, sym, ap, ap₂, arith}
 use Rattle.std.specs.Prelude.{unsigned_abs}
 use Rattle.pw_graph.specs.Samples.{peak_of}

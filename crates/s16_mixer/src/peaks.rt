@@ -19,7 +19,7 @@ fn raise(tops: &mut [u16], s: &[i16])
     }
 }
 
-/// The greatest absolute value of the samples, 0 of none. Takes no memory; one pass.
+/// The greatest absolute value of the samples, 0 of no samples. Takes no memory; one pass.
 pub fn peak(s: &[i16]) -> u32
     ensures value { result ≡ peak_of s.now }
     ensures limit { result ≤ 32768 }

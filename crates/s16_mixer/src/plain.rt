@@ -1,5 +1,5 @@
 //! The kernels as plain loops, one sample or frame a turn. The kernels over lanes use them for each
-//! lane and for the samples that fill none, and are measured beside them.
+//! lane and for the samples that fill no lane, and are measured beside them.
 
 mod channels;
 mod clamp;

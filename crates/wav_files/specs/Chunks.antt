@@ -17,7 +17,7 @@ pub record Chunk : Type 0 where
   pub size : ℕ
   pub body : List ℕ
 
--- the chunk whose head, of eight bytes, comes first
+-- the chunk whose head, of eight bytes, is first
 abbrev pub chunk_at : List ℕ → Chunk
 chunk_at bytes = record {
   name = take 4 bytes;
@@ -37,7 +37,7 @@ is_format chunk = bytes_eq chunk.name (codes "fmt ")
 abbrev pub is_data : Chunk → Bool
 is_data chunk = bytes_eq chunk.name (codes "data")
 
--- what follows a chunk: behind an odd size there is a byte of padding
+-- what follows a chunk: after an odd size there is a byte of padding
 abbrev pub after : Chunk → List ℕ
 after chunk = drop (chunk.size + chunk.size % 2) chunk.body
 

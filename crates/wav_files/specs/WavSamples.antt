@@ -4,7 +4,7 @@ use Rattle.std.specs.Int.{w16, cast_signed}
 use Rattle.byteorder.specs.Endian.{little_number}
 use Rattle.wav_files.specs.declared.form.Form.{Form}
 
--- the samples in a row of bytes; a single byte at the end is none
+-- the samples in a row of bytes; a single byte at the end is no sample
 abbrev pub samples_in : List ℕ → List ℤ
 samples_in [] = []
 samples_in (low ∷ []) = []

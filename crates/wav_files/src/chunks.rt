@@ -1,10 +1,10 @@
-//! The chunks of a file, each told by the bytes from its head to the end of the file. RIFF.
+//! The chunks of a file, each given by the bytes from its head to the end of the file. RIFF.
 ghost use Rattle.std.specs.Prelude.{◌≡◌, ◌+◌, ◌≤◌, length, bytes_eq};
 ghost use Rattle.wav_files.specs.Chunks.{is_riff, chunk_at, is_whole, is_format, is_data, after};
 
 use byteorder::{ByteOrder, LittleEndian};
 
-/// How many bytes stand before the first chunk.
+/// How many bytes are before the first chunk.
 pub(crate) const FRONT: usize = 12;
 
 /// How many bytes a chunk's head has.

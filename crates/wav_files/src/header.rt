@@ -3,7 +3,7 @@ ghost use Rattle.std.specs.Prelude.{◌≡◌, ◌+◌, ◌^◌, ◌<◌, ◌≤
 ghost use Rattle.pw_graph.specs.Limits.{channels_limit, rate_limit};
 ghost use Rattle.wav_files.specs.WavWriting.{wav_header};
 
-/// How many bytes stand before the samples of a plain file.
+/// How many bytes are before the samples of a plain file.
 pub(crate) const HEADER: usize = 44;
 
 /// The bytes before `size` bytes of samples: the chunk RIFF WAVE, its chunk "fmt " and the head of

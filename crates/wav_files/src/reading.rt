@@ -15,7 +15,7 @@ use byteorder::{ByteOrder, LittleEndian};
 use pw_lists::{Items, Memory};
 use std::alloc::Global;
 
-/// A size that says that the samples are all that is there.
+/// The size that means "up to the end of the file".
 const ENDLESS: u32 = 0xffff_ffff;
 
 /// What a chunk of samples gives.
@@ -144,7 +144,7 @@ fn samples_of(alloc: Global, bytes: &[u8]) -> Result<Items<i16>, Memory>
 /// `ChannelsOrRate`, where there are not 1 to 8 channels and 1 to 384000 frames a second; `BadFmt`,
 /// where a frame is not of two bytes a channel.
 ///
-/// Takes memory for the samples alone, once the file is known to have no fault; without it the
+/// Takes memory only for the samples, once the file is known to have no fault; without it the
 /// answer is `Memory`.
 #[tactic(auto, unfolding(crate::specs::WavReading::wav_of))]
 pub fn read_wav(alloc: Global, bytes: &[u8]) -> Result<Wav, WavFault>

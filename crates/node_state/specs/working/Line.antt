@@ -3,7 +3,7 @@
 use Rattle.std.specs.Prelude.{ℕ, List, ℤ, ◌++◌, take, drop, refl}
 use Rattle.std.specs.Coded.{Coded, code_by, coded×, coded_list, coded_ℕ, coded_ℤ}
 
--- a delay of `frames` frames, how many frames its line has, the samples that came and were not
+-- a delay of `frames` frames, how many frames its line has, the samples that were received and not
 -- given, and how many it has room for
 pub record Line : Type 0 where
   pub frames : ℕ

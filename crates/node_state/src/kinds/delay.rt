@@ -10,8 +10,8 @@ use std::alloc::Global;
 use std::marker::Model;
 
 /// A line of `long` frames: the first `size` samples of the ring, from `oldest` round to it. It is
-/// as long as the delay, or as all the frames that ever come where these are fewer: in those a
-/// longer line gives nothing but silence either.
+/// as long as the delay, or as all the frames that are ever received where these are fewer: in
+/// those a longer line gives nothing but silence either.
 #[derive(Drop)]
 pub(crate) struct DelayState {
     frames: u32,
@@ -51,7 +51,7 @@ fn read_ring(ring: &[i16], oldest: usize, a: &[i16], to: &mut [i16])
     copy_front(a, &mut to[first + second..]);
 }
 
-// Puts an input that reaches over the end of a ring behind its newest sample, over the oldest.
+// Puts an input that reaches over the end of a ring after its newest sample, over the oldest.
 // Answers the place of the oldest then.
 fn write_ring(ring: &mut [i16], oldest: usize, a: &[i16]) -> usize
     requires within { oldest ≤ length ring.old }
@@ -87,7 +87,7 @@ fn pass_round(ring: &mut [i16], oldest: usize, a: &[i16], to: &mut [i16]) -> usi
     write_ring(ring, oldest, a)
 }
 
-// One quantum that ends before the end of a ring or at it: the input comes in the place of the
+// One quantum that ends before the end of a ring or at it: the input takes the place of the
 // oldest samples.
 fn pass(ring: &mut [i16], oldest: usize, a: &[i16], to: &mut [i16]) -> usize
     requires within { oldest + length a.now ≤ length ring.old }
@@ -134,7 +134,7 @@ fn clear_line(row: &mut [i16], size: usize)
 
 impl DelayState {
     /// A line of zeros for a delay of `frames` frames, of `channels` channels, to which `prepared`
-    /// frames come in all.
+    /// frames are given in all.
     pub(crate) fn new(
         alloc: Global,
         frames: u32,
@@ -164,7 +164,7 @@ impl DelayState {
     }
 
     /// The oldest samples, as many as the input has, to the output where it has a form; then the
-    /// input behind the rest.
+    /// input after the rest.
     #[inline(never)]
     pub(crate) fn process(&mut self, a: &[i16], left: &mut [i16])
         requires { IsNoneOr (length a.now) left.old }

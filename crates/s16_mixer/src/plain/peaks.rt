@@ -11,7 +11,7 @@ pub fn higher(top: u16, x: i16) -> u16
     top.max(x.unsigned_abs())
 }
 
-/// The greatest absolute value of the samples, 0 of none. Takes no memory; one pass.
+/// The greatest absolute value of the samples, 0 of no samples. Takes no memory; one pass.
 #[inline(always)]
 pub fn peak(s: &[i16]) -> u32
     ensures value { result ≡ peak_of s.now }
