@@ -61,14 +61,14 @@ steady points channels first n g some same k (x ∷ xs) l =
     ap₂ (λ (h : ℤ) (ys : List ℤ). scaled h x ∷ ys) (same (k / channels) ((div-lt_iff_lt-mul some).1 (omega (arith, l))))
     (steady points channels first n g some same (k + 1) xs (omega (arith, l)))
 
--- points that all come later change nothing
+-- points that are all later change nothing
 held : (g : ℤ) (i : ℕ) (points : List Point) → All (λ p. i < p.offset) points → gain_after g points i ≡ g
 held g i [] later = refl
 held g i (p ∷ ps) later =
     ap (λ (h : ℤ). gain_after h ps i) (cond-false (nat_le p.offset i) p.g g (lt-leb p.offset i (later 0 p (omega arith))))
     ∙ held g i ps (λ k d l. later (suc k) d (omega (arith, l)))
 
--- the points from the next on all come later than a frame before it
+-- the points from the next on are all later than a frame before it
 all_later : (points : List Point) (next i : ℕ) → AllPairs (λ p q. p.offset ≤ q.offset) points → IsBefore points next (suc i)
     → All (λ p. i < p.offset) (drop next points)
 all_later points next i rising before zero d l = grind (arith, common_steps, get_or-drop next points 0 d, before d)
@@ -82,7 +82,7 @@ gain_stays points next frame n g rising behind before j l =
     sym (behind.2 (frame + j) (omega arith))
     ∙ held g (frame + j) (drop next points) (all_later points next (frame + j) rising (λ d m. omega (arith, before d m)))
 
--- one point more is behind
+-- one point more is passed
 pub point_behind : (points : List Point) (frame next : ℕ) (g : ℤ) (p : Point) → AreBehind points frame next g → next < length points
     → p ≡ slice_index_or points next p → p.offset ≤ frame → IsGain p.g → AreBehind points frame (next + 1) p.g
 point_behind points frame next g p behind here is early gain = (
@@ -105,7 +105,7 @@ still_behind points frame later next g l behind = (behind.0, behind.1, λ i m. b
 pub length-automated : (points : List Point) (channels first : ℕ) (xs : List ℤ) → length (automated points channels first xs) ≡ length xs
 length-automated points channels first xs = grind (arith, common_steps, length-enumerate_from 0 xs)
 
--- a piece of whole frames, written behind those before it
+-- a piece of whole frames, written after those before it
 pub frames_written : (points : List Point) (channels first done n : ℕ) (xs ys to new : List ℤ) (from w end : ℕ)
     → 1 ≤ channels → from ≡ done * channels → end ≡ (done + n) * channels → end ≤ length xs → w ≡ end - from
     → to ≡ automated points channels first (take from xs) ++ drop from ys
@@ -125,7 +125,7 @@ frames_written points channels first done n xs ys to new from w end some a b l e
     ap (λ zs. put_mid from w zs new) t ∙ piece_written here ys new from w long
     ∙ ap₂ (λ (zs : List ℤ) (m : ℕ). zs ++ drop m ys) joined (omega (arith, wide, width))
 
--- a stretch of frames with one gain, written behind those before it
+-- a stretch of frames with one gain, written after those before it
 pub stretch_written : (points : List Point) (channels first done n : ℕ) (g : ℤ) (xs ys to new : List ℤ) (from w end : ℕ)
     → 1 ≤ channels → from ≡ done * channels → end ≡ (done + n) * channels → end ≤ length xs → w ≡ end - from
     → to ≡ automated points channels first (take from xs) ++ drop from ys

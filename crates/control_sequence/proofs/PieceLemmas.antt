@@ -8,7 +8,7 @@ use Rattle.control_sequence.specs.declared.points.Point.{Point}
 use Rattle.control_sequence.specs.Automation.{automated}
 use Rattle.control_sequence.proofs.AutomationLemmas.{length-automated}
 
--- n frames behind others, as samples
+-- n frames after others, as samples
 pub piece_size : (channels done n : ℕ) → (done + n) * channels - done * channels ≡ n * channels
 piece_size channels done n = omega (arith, add-mul done n channels)
 
@@ -25,7 +25,7 @@ whole_frames size channels n is = ap (λ m. m % channels) is ∙ mul-mod_left n 
 pub frames_in : (size channels n : ℕ) → 1 ≤ channels → size ≡ n * channels → size / channels ≡ n
 frames_in size channels n some is = ap (λ m. m / channels) is ∙ mul-div_cancel n some
 
--- what comes behind the automated frames is as it was
+-- what is after the automated frames is as it was
 pub piece_untouched : (points : List Point) (channels first : ℕ) (xs row : List ℤ) (n w : ℕ)
     → row ≡ automated points channels first (take n xs) ++ drop n xs → n ≤ length xs → take w (drop n row) ≡ take w (drop n xs)
 piece_untouched points channels first xs row n w t h =

@@ -20,7 +20,7 @@ use Rattle.control_sequence.specs.Points.{gain_in, gain_of, gain_value, point_in
 use Rattle.control_sequence.specs.Automation.{ArePoints}
 use Rattle.pw_graph.specs.KindRanges.{IsGain}
 
--- the faults of controls from this place on, behind one with this offset
+-- the faults of controls from this place on, after one with this offset
 abbrev pub faults_from : ℕ → ℕ → List Control → List ControlFault
 faults_from i before controls = filter_map (λ e. fault_in e.0 e.1.0 e.1.1)
     (enumerate_from i (zip (before ∷ map (λ c. (out-Control c).offset) controls) controls))

@@ -45,13 +45,13 @@ coded_stream = code_by (List Point × (ℕ × ℕ))
     (λ s. (s.points, (s.channels, s.frames)))
     (λ c. record { points = c.0; channels = c.1.0; frames = c.1.1 }) (λ _. refl)
 
--- the points before `next` are behind frame i: from there on the gain is that of the points left,
--- or g
+-- the points before `next` are passed at frame i: from there on the gain is that of the points
+-- left, or g
 abbrev pub AreBehind : List Point → ℕ → ℕ → ℤ → Type 0
 AreBehind points frame next g = (next ≤ length points) × IsGain g
     × ((i : ℕ) → frame ≤ i → gain_after g (drop next points) i ≡ gain_at points i)
 
--- the next point comes at or after frame i
+-- the next point is at or after frame i
 abbrev pub IsBefore : List Point → ℕ → ℕ → Type 0
 IsBefore points next i = (d : Point) → next < length points
     → i ≤ (slice_index_or points next d).offset

@@ -6,7 +6,7 @@ ghost use Rattle.control_sequence.specs.Automation.{ArePoints, AreBehind, IsBefo
 use crate::points::Point;
 use s16_mixer::gain;
 
-/// How far a stream has come along its points: those before `next` are behind it, and it has this
+/// How far a stream is along its points: those before `next` are passed, and it has this
 /// gain.
 #[derive(Clone, Copy, Drop)]
 pub(crate) struct Reached {
@@ -14,7 +14,7 @@ pub(crate) struct Reached {
     pub gain: i32,
 }
 
-// Leaves the points behind that are at or before a frame.
+// Passes the points that are at or before a frame.
 fn reach(points: &[Point], reached: Reached, frame: u64) -> Reached
     requires sound { ArePoints points.now }
     requires behind { AreBehind points.now frame reached.next reached.gain }
@@ -31,7 +31,7 @@ fn reach(points: &[Point], reached: Reached, frame: u64) -> Reached
     reached
 }
 
-// How many of the frames that are left, from this frame on, come before the next point.
+// How many of the frames that are left, from this frame on, are before the next point.
 fn stretch(points: &[Point], next: usize, frame: u64, left: usize) -> usize
     requires before { IsBefore points.now next (frame + 1) }
     requires some { 0 < left }

@@ -2,7 +2,7 @@
 //!
 //! `controls_of` reads the points of a sequence: of each control that carries properties with a
 //! gain, its offset in frames and a gain. An `Automation` goes along a stream with them: each frame
-//! by the gain of the last point at or before it, whatever the pieces that the stream comes in.
+//! by the gain of the last point at or before it, whatever the pieces of the stream.
 #![tactic(auto)]
 
 mod applying;

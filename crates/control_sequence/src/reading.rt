@@ -89,7 +89,7 @@ fn point_at(control: &Control, index: u32, before: u32) -> Result<Option<Point>,
     }
 }
 
-// The point of a control, if it has one, comes behind those before it.
+// The point of a control, if it has one, is put after those before it.
 fn add_point(
     control: &Control,
     index: usize,

@@ -43,7 +43,7 @@ value_fault : (o : Pod-F Pod Control Prop) (key : ℕ) (a b : FormatFault) → F
 value_fault (Pod-F.Choice kind flags child values) key a b x y = values_fault kind values key a b x y
 value_fault other key a b x y = absurd x
 
--- a property behind others has one fault
+-- a property after others has one fault
 prop_fault : (before : List Prop) (prop : Prop) (a b : FormatFault) → FaultsProp before prop a → FaultsProp before prop b → a ≡ b
 prop_fault before prop a b x y = elim x [
   | inl v ↦ elim y [ inl w ↦ v.1 ∙ sym w.1 | inr w ↦ absurd (w.0 v.0) ]

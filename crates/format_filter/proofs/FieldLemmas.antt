@@ -60,7 +60,7 @@ key_least xs at key m h low =
 pub key_at : (xs : List Field) (at key : ℕ) (e : Field) → at < length xs → (get_or xs at e).key ≡ key → IsKeyAt xs at key
 key_at xs at key e l h = (l, λ d. ap (λ (f : Field). f.key) (get_or_default xs at d e l) ∙ h)
 
--- behind a place the keys are greater
+-- after a place the keys are greater
 pub later : (xs : List Field) (at key : ℕ) → AreSoundFields xs → IsKeyAt xs at key → All (λ f. key < f.key) (drop (at + 1) xs)
 later xs at key sound h k d l =
     let place : (at + 1) + k < length xs = omega (arith, length-drop (at + 1) xs, l) in
@@ -91,7 +91,7 @@ none_left xs at key h k d l = absurd (omega (arith, length-drop at xs, l))
 pub none_after : (xs : List Field) (at key : ℕ) → length xs ≤ at → All (λ f. key < f.key) (drop at xs)
 none_after xs at key h k d l = absurd (omega (arith, length-drop at xs, l))
 
--- a field of the key stands there
+-- a field of the key is there
 pub behind_one : (xs : List Field) (at key : ℕ) → AreSoundFields xs → IsKeyAt xs at key → IsBehind xs at key (at + 1)
 behind_one xs at key sound h = record {
   within = omega (arith, h.0);
@@ -107,7 +107,7 @@ behind_one xs at key sound h = record {
       ap (λ (f : Field). f.key) (get_or-take n (drop at xs) k d single ∙ get_or-drop at xs k d)
       ∙ ap (λ (i : ℕ). (get_or xs (at + i) d).key) first ∙ ap (λ (i : ℕ). (get_or xs i d).key) (omega arith) ∙ h.1 d
 
--- no field of the key stands there
+-- no field of the key is there
 pub behind_none : (xs : List Field) (at key : ℕ) → at ≤ length xs → All (λ f. key < f.key) (drop at xs) → IsBehind xs at key at
 behind_none xs at key l above = record {
   within = l;
@@ -118,7 +118,7 @@ behind_none xs at key l above = record {
   nothing : (xs : List Field) (at : ℕ) → slice_range xs at at ≡ []
   nothing xs at = let none : at - at ≡ 0 = omega arith in ap (λ n. take n (drop at xs)) none
 
--- a key that is less than what stands at a place is less than all behind it
+-- a key that is less than what is at a place is less than all after it
 pub under : (xs : List Field) (at key first : ℕ) → AreSoundFields xs → IsKeyAt xs at first → All (λ f. key ≤ f.key) (drop at xs)
     → (first ≡ key → ⊥) → All (λ f. key < f.key) (drop at xs)
 under xs at key first sound h low different k d l =

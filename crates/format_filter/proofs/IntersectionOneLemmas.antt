@@ -27,7 +27,7 @@ use Rattle.format_filter.proofs.ValueLemmas.{first_is}
 pub not_before : (xs : List Pod) (p : Pod) → IsBefore xs p p → ⊥
 not_before xs p h = h.4 h.3
 
--- what stands in the shorter of two fronts stands in the longer
+-- what is in the shorter of two fronts is in the longer
 longer_has : (xs f b g d : List Pod) (p : Pod) → xs ≡ f ++ b → xs ≡ g ++ d → length f ≤ length g → Contains f p → Contains g p
 longer_has xs f b g d p e h le w =
     let lt = w.1 in
@@ -45,7 +45,7 @@ never_both xs p q a b = elim (cases_lt (length a.0) (length b.0)) [
 tail_pairs : (R : Pod → Pod → Type 0) (y : Pod) (ys : List Pod) → AllPairs R (y ∷ ys) → AllPairs R ys
 tail_pairs R y ys h i j d lt lj = h (suc i) (suc j) d (omega (arith, lt)) (omega (arith, lj))
 
--- what stands behind the first of one list stands behind the same first of the other
+-- what is after the first of one list is after the same first of the other
 behind : (xs : List Pod) (u v : Pod) (us vs : List Pod) → u ≡ v → AllPairs (IsBefore xs) (u ∷ us)
     → ((x : Pod) → Contains (u ∷ us) x → Contains (v ∷ vs) x) → (x : Pod) → Contains us x → Contains vs x
 behind xs u v us vs e order has x w = go (has x (suc w.0, omega (arith, inside), w.2)).0 (has x (suc w.0, omega (arith, inside), w.2)).1

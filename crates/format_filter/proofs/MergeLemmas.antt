@@ -48,7 +48,7 @@ others xs key k n h = All-weaker (λ f. f.key ≡ key) (λ f. f.key ≢ k) (λ f
 lows : (xs : List Field) (m key : ℕ) → m ≤ key → All (λ f. f.key < m) xs → All (λ f. f.key ≢ key) xs
 lows xs m key l h = All-weaker (λ f. f.key < m) (λ f. f.key ≢ key) (λ f w e. let u : f.key < m = w in omega arith) xs h
 
--- at its key stands the next field, and at others what stood there
+-- at its key is the next field, and at others what was there
 here : (ls xs : List Field) (m key : ℕ) → m ≤ key → All (λ f. f.key < m) ls → All (λ f. f.key ≡ key) xs
     → field_of (ls ++ xs) key ≡ slice_get xs 0
 here ls xs m key l low same = field_next ls xs key (lows ls m key l low) ∙ field_first key xs same
@@ -96,7 +96,7 @@ merged_more m key ls rs out xs ys h merged l xk yk hk joined =
       };
     }
 
--- all of a row: what is merged, what stands at a place and what is left
+-- all of a row: what is merged, what is at a place and what is left
 parts : (xs : List Field) (at next : ℕ) → at ≤ next → xs ≡ take at xs ++ (slice_range xs at next ++ drop next xs)
 parts xs at next l = sym (take-append-drop at xs) ∙ ap (λ (ys : List Field). take at xs ++ ys) (drop_split xs at next l)
 
@@ -109,7 +109,7 @@ greater xs key k l h = All-weaker (λ f. f.key ≡ key) (λ f. f.key ≢ k) (λ 
 above : (xs : List Field) (key k : ℕ) → k ≤ key → All (λ f. key < f.key) xs → All (λ f. f.key ≢ k) xs
 above xs key k l h = All-weaker (λ f. key < f.key) (λ f. f.key ≢ k) (λ f w e. let u : key < f.key = w in omega arith) xs h
 
--- of a whole row, at the key stands the next field, and below it what is merged
+-- of a whole row, at the key is the next field, and below it what is merged
 whole_here : (xs : List Field) (at key m next : ℕ) → at ≤ next → m ≤ key → All (λ f. f.key < m) (take at xs) → IsBehind xs at key next
     → field_of xs key ≡ slice_get (slice_range xs at next) 0
 whole_here xs at key m next l low h behind =

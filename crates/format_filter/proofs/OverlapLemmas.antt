@@ -19,7 +19,7 @@ pub number_injective : (wide : Wide) (n m : ℤ) → number_of wide n ≡ number
 number_injective Int n m e = cc
 number_injective Long n m e = cc
 
--- a number tells its type
+-- a number determines its type
 pub type_told : (v w : Wide) (n m : ℤ) → number_of v n ≡ number_of w m → v ≡ w
 type_told Int Int n m e = refl
 type_told Int Long n m e = absurd (cc)

@@ -105,7 +105,7 @@ readable props fields h = record {
       (λ p w. (w.0.choice, w.2.2)) props h.each;
 }
 
--- a key that is in the map stands twice
+-- a key that is in the map is there twice
 pub twice_faults : (props : List Prop) (i : ℕ) (prop : Prop) (fields : BTreeMap ℕ Field) (field : Field) → i < length props
     → prop ≡ get_or props i prop → AreRead (take i props) fields → field_at fields (key_of prop) ≡ Some field
     → FaultsProps props (f.KeyTwice (key_of prop))

@@ -1,4 +1,4 @@
--- Lists of those of some values for which something holds, in their order, none twice.
+-- Lists of those of some values for which something holds, in their order, no value twice.
 use Rattle.std.proofs.Common.{◌≡◌, ℕ, zero, suc, ◌<◌, ◌≤◌, ◌⊎◌, inl, inr, List, [], ◌∷◌, ◌++◌, length, get_or, take, ◌+◌}
 use Rattle.std.proofs.Common.{refl, sym, ap, ◌∙◌, subst, append_assoc, length-append, arith}
 use Rattle.std.specs.List.{Contains}
@@ -127,7 +127,7 @@ module _ (a b other : Choice) (values those : List Pod) (listed : AreListed a b 
         pick = subst (λ (y : Pod). IsPicked a b y pick) (sym head) picked;
       }
 
-  -- one alone is an Only
+  -- a single one is an Only
   pub one_meets : (front : List Pod) (v : Pod) → those ≡ front ++ v ∷ [] → length those ≤ 1 → IsCommonIn (HasForm a b) a b (Only v)
   one_meets front v e l =
       let alone : those ≡ v ∷ [] = only_front those front v e l in

@@ -44,7 +44,7 @@ abbrev pub ReadsEnum : Pod → List Pod → Choice → Type 0
 ReadsEnum wish values (Enum pick alts) = (alts ≡ values) × Prefers wish (Enum pick alts)
 ReadsEnum wish values other = ⊥
 
--- the alternatives behind a default: with none it is its own
+-- the alternatives after a default: with none it is its own
 abbrev pub alternatives : Pod → List Pod → List Pod
 alternatives wish [] = wish ∷ []
 alternatives wish (v ∷ rest) = v ∷ rest
@@ -57,7 +57,7 @@ ReadsValues k.Step (wish ∷ low ∷ high ∷ by ∷ rest) c = ReadsStep wish lo
 ReadsValues k.Enum (wish ∷ rest) c = ReadsEnum wish (alternatives wish rest) c
 ReadsValues kind values c = ⊥
 
--- their fault: none at all first, then Flags, then a Range or Step that is none
+-- their fault: no alternative first, then Flags, then a Range or Step that is empty
 abbrev pub FaultsValues : ChoiceKind → List Pod → ℕ → FormatFault → Type 0
 FaultsValues kind [] key fault = fault ≡ f.EmptyChoice key
 FaultsValues k.Flags (v ∷ rest) key fault = fault ≡ f.FlagsChoice key

@@ -10,7 +10,7 @@ use Rattle.format_filter.specs.declared.common.Filtered.TheVariants.{Common, Cla
 use Rattle.format_filter.specs.Soundness.{IsSound}
 use Rattle.format_filter.specs.Intersection.{IsCommon, IsIntersection}
 
--- fields ascend by their keys, none twice, and their choices are sound
+-- fields ascend by their keys, no key twice, and their choices are sound
 pub record AreSoundFields (fields : List Field) : Type 0 where
   pub ascending : AllPairs (λ f g. f.key < g.key) fields
   pub choices : All (λ f. IsSound f.choice) fields
@@ -28,7 +28,7 @@ abbrev pub IsMandatory : ℕ → Type 0
 IsMandatory flags = bit_and flags 8 ≡ 8
 
 -- what two formats have at a key clashes: two choices without a common member, or a mandatory one
--- alone
+-- on one side
 abbrev pub AreClashing : Option Field → Option Field → Type 0
 AreClashing (Some f) (Some g) = (x : Pod) → IsCommon f.choice g.choice x → ⊥
 AreClashing (Some f) None = IsMandatory f.flags
@@ -44,7 +44,7 @@ pub record HasCommonFormat (a b : Format) : Type 0 where
   pub types : a.object ≡ b.object
   pub clashless : (key : ℕ) → Clashes a.fields b.fields key → ⊥
 
--- what the common format has at a key: what one has alone, or the intersection and the flags that
+-- what the common format has at a key: what only one has, or the intersection and the flags that
 -- both have
 abbrev pub IsCommonField : Option Field → Option Field → Option Field → Type 0
 IsCommonField (Some f) (Some g) (Some h) = (h.key ≡ f.key)

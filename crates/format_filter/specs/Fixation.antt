@@ -5,7 +5,7 @@ use Rattle.format_filter.specs.declared.format.Field.{Field}
 use Rattle.format_filter.specs.declared.format.Format.{Format}
 use Rattle.format_filter.specs.Members.{pick_of}
 
--- a field with its pick alone, without flags
+-- a field with only its pick, without flags
 abbrev pub fixed : Field → Field
 fixed f = record { key = f.key; flags = 0; choice = Only (pick_of f.choice) }
 

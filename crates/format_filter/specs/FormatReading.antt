@@ -39,7 +39,7 @@ pub record AreFieldsOf (props : List Prop) (fields : List Field) : Type 0 where
   pub only : (key : ℕ) → All (λ prop. key_of prop ≢ key) props
       → field_of fields key ≡ None
 
--- a property behind others is at fault: one of them has its key, else its value is
+-- a property after others is at fault: one of them has its key, else its value is
 abbrev pub IsTwice : List Prop → Prop → Type 0
 IsTwice before prop = Any (λ other. key_of other ≡ key_of prop) before
 
@@ -73,7 +73,7 @@ FaultsObject other fault = fault ≡ f.NotObject
 abbrev pub IsFirstFault : Pod → FormatFault → Type 0
 IsFirstFault pod fault = FaultsObject (out-Pod pod) fault
 
--- READ AS this format: it is the one that the object is read as, and no fault stands
+-- READ AS this format: it is the one that the object is read as, and there is no fault
 pub record IsReadAs (pod : Pod) (format : Format) : Type 0 where
   pub reads : IsFormatOf pod format
   pub only : (other : Format) → IsFormatOf pod other → other ≡ format

@@ -29,7 +29,7 @@ IsChoice kind child values (Pod-F.Choice k flags c vs) = (k ≡ kind) × (flags 
     × (c ≡ child) × (vs ≡ values)
 IsChoice kind child values other = ⊥
 
--- an Only is its value; of the others the pick comes first
+-- an Only is its value; of the others the pick is first
 abbrev pub Writes : Choice → Pod → Type 0
 Writes (Only value) v = v ≡ value
 Writes (Enum pick alts) v = (child : ℕ) × IsOfType child pick

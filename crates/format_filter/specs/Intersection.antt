@@ -19,7 +19,8 @@ pub record IsPicked (a b : Choice) (first pick : Pod) : Type 0 where
   pub none : (IsCommon a b (pick_of a) → ⊥) → (IsCommon a b (pick_of b) → ⊥)
       → pick ≡ first
 
--- a sound choice c of just the common members of a and b, in a form and with the pick that is due
+-- c is the sound choice of exactly the common members of a and b, in the prescribed form and with
+-- the prescribed pick
 pub record IsCommonIn (Form : Choice → Type 0) (a b c : Choice) : Type 0 where
   pub sound : IsSound c
   pub only : (x : Pod) → IsMember c x → IsCommon a b x

@@ -9,12 +9,12 @@ use Rattle.format_filter.specs.declared.choice.Choice.TheVariants.{Only, Enum, R
 use Rattle.format_filter.specs.declared.choice.Wide.{Wide}
 use Rattle.format_filter.specs.Members.{number_of, IsMember}
 
--- p stands in a list before q does: some prefix of it has p and not q
+-- p is in a list before q: some prefix of it has p and not q
 abbrev pub IsBefore : List Pod → Pod → Pod → Type 0
 IsBefore xs p q = (front back : List Pod) × (xs ≡ front ++ back) × Contains front p
     × (Contains front q → ⊥)
 
--- just those of a list for which P holds, in the order in which they first stand in it, so none
+-- just those of a list for which P holds, in the order in which they are first in it, so none
 -- twice
 pub record AreThoseOf (xs : List Pod) (P : Pod → Type 0) (those : List Pod) : Type 0 where
   pub only : (x : Pod) → Contains those x → Contains xs x × P x

@@ -24,7 +24,7 @@ pub enum Filtered {
 /// A key clashes where both have it and no value is a member of both, or where one has it with the
 /// flag MANDATORY and the other lacks it; the answer is the least such key. The common format has
 /// the object type and the id of a; a key that both have has the intersection of their choices and
-/// the flags that both have, and a key that one has alone is as it is there.
+/// the flags that both have, and a key that only one has is as it is there.
 ///
 /// Public source: PipeWire's documentation, "SPA POD"; `spa/pod/filter.h`, `spa_pod_filter`. What a
 /// key that one side lacks does is this project's.

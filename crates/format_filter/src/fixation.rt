@@ -12,7 +12,7 @@ use std::alloc::Global;
 /// The param id of a format that is taken.
 const FORMAT: u32 = 4;
 
-/// Fields with their picks alone, without flags.
+/// Fields with only their picks, without flags.
 fn fixed_fields(alloc: Global, fields: &[Field]) -> Result<Items<Field>, Memory>
     requires { AreSoundFields fields.now }
     ensures { IfOk result (λ all. all ≡ map fixed fields.now) }
@@ -28,7 +28,7 @@ fn fixed_fields(alloc: Global, fields: &[Field]) -> Result<Items<Field>, Memory>
     Ok(all)
 }
 
-/// The format in which each choice is its pick alone: its id is that of Format, 4, and its flags
+/// The format in which each choice is only its pick: its id is that of Format, 4, and its flags
 /// are 0.
 ///
 /// Public source: PipeWire's documentation, "SPA POD"; `spa/pod/iter.h`, `spa_pod_fixate`.

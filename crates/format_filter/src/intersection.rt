@@ -40,7 +40,7 @@ fn steps(wide: Wide, pick: i64, min: i64, max: i64, step: i64) -> Ranged
 ///
 /// The common members of an Only or Enum and another choice come in the order of the first's
 /// values, those of two Ranges are a Range, and those of other choices of numbers are a Step; one
-/// member alone is an Only, and two numbers are an Enum. The pick is a's where it is common, else
+/// member is an Only, and two numbers are an Enum. The pick is a's where it is common, else
 /// b's where it is common, else the first alternative or the least member.
 ///
 /// Two Ranges take no memory, and never give `Memory`. Enums of n and m values take time

@@ -1,4 +1,4 @@
-//! Values that hold no others: whether a value is a given one of them. Floats are told by their
+//! Values that hold no others: whether a value is a given one of them. Floats are compared by their
 //! bits.
 ghost use Rattle.std.specs.Prelude.{◌≡◌, ◌↔◌, IsTrue};
 ghost use Rattle.pod_codec.specs.declared.pod.Pod.TheVariants as p;

@@ -39,7 +39,7 @@ fn least_key(a: &[Field], i: usize, b: &[Field], j: usize) -> u32
     a[i].key.min(b[j].key)
 }
 
-/// The place behind what stands at a place under a key.
+/// The place after what is at a place under a key.
 fn behind(fields: &[Field], at: usize, key: u32) -> usize
     requires sound { AreSoundFields fields.now }
     requires within { at ≤ length fields.now }
@@ -77,7 +77,7 @@ fn join_both(alloc: Global, own: &Field, other: &Field) -> Result<Option<Field>,
     }
 }
 
-/// A field that one side has alone, if it is not mandatory.
+/// A field that only one side has, if it is not mandatory.
 fn join_one(alloc: Global, field: &Field) -> Result<Option<Field>, Memory>
     requires { IsSound field.now.choice }
     ensures own { IfOk result (Joins (Some field.now) None) }

@@ -29,7 +29,7 @@ pub struct Solutions {
     pub period: u64,
 }
 
-/// What has to stand beside `n` so that both together are divided by `by`: less than `by`.
+/// What has to be added to `n` so that both together are divided by `by`: less than `by`.
 fn complement(n: u64, by: u64) -> u64
     requires { 0 < by }
     ensures less { result < by }
@@ -84,7 +84,7 @@ fn product(a: u64, b: u64) -> u128
     u128::from(a) * u128::from(b)
 }
 
-/// The number that stands so far above another.
+/// The number that is so far above another.
 fn above(low: i64, by: u128) -> i64
     requires { (low +ℤ pos by) ≤ℤ pos 9223372036854775807 }
     ensures { result ≡ low +ℤ pos by }

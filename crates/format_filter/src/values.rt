@@ -29,7 +29,7 @@ fn common_values(alloc: Global, values: &[Pod], other: &Choice) -> Result<Items<
     Ok(those)
 }
 
-/// The intersection of two choices, of which one has the value alone and `other` is the other one.
+/// The intersection of two choices, of which one has only the value and `other` is the other one.
 pub fn meet_value(
     alloc: Global,
     value: &Pod,

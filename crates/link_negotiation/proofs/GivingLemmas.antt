@@ -238,7 +238,7 @@ kept_value own c key v keeps e =
     let same : pick_of h.choice ≡ v = only_member has.field.choice v (pick_of h.choice) has.only (kept.2 (pick_of h.choice) sound.pick) in
     value_of_field (fixated c).fields key (fixed h) v (field_map fixed key (λ f. refl) c.fields h kept.1) (ap (λ (x : Pod). Some x) same)
 
--- a port with a format offers it alone, so it agrees with what is settled on
+-- a port with a format offers only it, so it agrees with what is settled on
 agrees_with : (node : Node) (s : PortState) (f c : Format) → Offers node s (Offer f) → Keeps f c → Agrees (fixated c) node s
 agrees_with node s f c offers keeps own key v e has =
     let alone : f ≡ own = offers.0 ∙ ap (λ (o : Option Format). unwrap_or o
@@ -293,7 +293,7 @@ elsewhere P nodes port other f differ h =
     (sym (changed_elsewhere nodes port.node other.node (λ node. record node { ports = changed node.ports port.port f })
     (λ e. differ (sym e)))) h
 
--- two changes that do the same to what stands there
+-- two changes that do the same to what is there
 changed_alike : {X : Type 0} (xs : List X) (i : ℕ) (f g : X → X) → ((x : X) → slice_get xs i ≡ Some x → f x ≡ g x)
     → changed xs i f ≡ changed xs i g
 changed_alike [] i f g h = refl
@@ -323,7 +323,7 @@ kept_given nodes port format has =
     (λ s d. ap (λ (o : Option Format). record s { format = o })
     (some_kept s.format format (at_port (λ (node : Node) (t : PortState). IsSome t.format) nodes port node s e d has))))))
 
--- what has_format tells
+-- what has_format says
 not_some : (o : Option Format) → (IsSome o → ⊥) → o ≡ None
 not_some (Some f) h = absurd (h refl)
 not_some None h = refl

@@ -1,4 +1,5 @@
--- What becomes of a link is one thing alone: what ports offer, settle on and share is fixed, and so is the outcome.
+-- What becomes of a link is one thing: what ports offer, settle on and share is fixed, and so is
+-- the outcome.
 use Rattle.std.proofs.Common.{◌≡◌, inl, inr, ℕ, ◌<◌, List, Option, Some, None, Bool, true, false, true≢false, refl, sym, ap, ap₂}
 use Rattle.std.proofs.Common.{◌∙◌, subst, arith}
 use Rattle.std.proofs.lemmas.Bool.{cases_lt}

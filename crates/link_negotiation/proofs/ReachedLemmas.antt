@@ -9,7 +9,7 @@ use Rattle.std.proofs.lemmas.List.Sums.{sum_by-set}
 use Rattle.link_negotiation.specs.declared.reached.Reached.{Reached}
 use Rattle.link_negotiation.specs.working.Searching.{is_reached, IsQueue, IsLonger}
 
--- what is reached stays, and one node comes
+-- what is reached stays, and one node is added
 pub still : (here : List Bool) (n m : ℕ) → n < length here → is_reached here m ≡ true → is_reached (set here n true) m ≡ true
 still here n m l r = elim (cases_eq m n) [
   | inl same ↦ ap (is_reached (set here n true)) same ∙ get_or-set_same here n true false l
@@ -75,7 +75,7 @@ longer_same r = record { count = omega arith; order = λ k below. refl; here = �
 pub set_again : (here : List Bool) (n : ℕ) → is_reached here n ≡ true → here ≡ set here n true
 set_again here n e = sym (set-get_or here n false) ∙ ap (λ b. set here n b) e
 
--- none is reached at first
+-- no node is reached at first
 pub none_reached : (n k : ℕ) → is_reached (replicate n false) k ≡ false
 none_reached zero k = refl
 none_reached (suc n) zero = refl

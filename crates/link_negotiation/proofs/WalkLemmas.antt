@@ -6,7 +6,7 @@ use Rattle.link_negotiation.specs.declared.link.Link.{Link}
 use Rattle.link_negotiation.specs.Links.{LinkState, synchronous_links, IsWalk, IsReachable}
 use Rattle.link_negotiation.specs.working.Searching.{is_reached, IsLed}
 
--- a link that stands at a place, and passes, is among those that pass
+-- a link that is at a place, and passes, is among those that pass
 later : (b : Bool) (y x : Link) (zs : List Link) → Contains zs x → Contains (cond b (y ∷ zs) zs) x
 later true y x zs w = (let l = w.1 in (suc w.0, omega arith, w.2))
 later false y x zs w = w
@@ -17,7 +17,7 @@ kept p (y ∷ ys) zero x l e t = subst (λ (b : Bool). Contains (cond b (y ∷ f
     (0, omega arith, e)
 kept p (y ∷ ys) (suc k) x l e t = later (p y) y x (filter p ys) (kept p ys k x (omega arith) e t)
 
--- what is found behind the first, and at it
+-- what is found after the first, and at it
 behind : (p : Link → Bool) (y : Link) (ys : List Link) (x : Link) → Contains ys x × (p x ≡ true) → Contains (y ∷ ys) x × (p x ≡ true)
 behind p y ys x r = (let l = r.0.1 in ((suc r.0.0, omega arith, r.0.2), r.1))
 
@@ -31,7 +31,7 @@ found : (p : Link → Bool) (y : Link) (ys : List Link) (x : Link) → (Contains
 found p y ys x rest true e v = first p y ys x rest e v.0 v.1 v.2
 found p y ys x rest false e v = behind p y ys x (rest v)
 
--- and one of those that pass stands among all
+-- and one of those that pass is among all
 pub origin : (p : Link → Bool) (xs : List Link) (x : Link) → Contains (filter p xs) x → Contains xs x × (p x ≡ true)
 origin p [] x w = (let l = w.1 in absurd (omega arith))
 origin p (y ∷ ys) x w = found p y ys x (origin p ys x) (p y) refl w

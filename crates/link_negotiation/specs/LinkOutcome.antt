@@ -66,7 +66,7 @@ MayBeGiven format node s = s.format ≡ None → MayTake format node s
 abbrev pub formatted : List Node → PortId → PortId → Format → List Node
 formatted nodes from to format = with_port (with_port nodes from (given format)) to (given format)
 
--- WHAT STANDS BEHIND a link line
+-- THE GRAPH AFTER a link line
 abbrev pub LeavesLink : LinkState → List Node → PortId → PortId → Linked → LinkState
     → List Node → Type 0
 LeavesLink s nodes from to (Made format buffers) t after =

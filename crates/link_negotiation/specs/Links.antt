@@ -26,7 +26,7 @@ are_linked made from to = list_any (joins from to) made
 abbrev pub has_link : List Link → ℕ → Bool
 has_link made n = list_any (λ l. (l.from.node == n) || (l.to.node == n)) made
 
--- SYNCHRONOUS: none of its two nodes is marked
+-- SYNCHRONOUS: neither of its two nodes is marked
 abbrev pub is_marked : LinkState → ℕ → Bool
 is_marked s n = slice_index_or s.marks n false
 

@@ -27,7 +27,7 @@ releasing made keep n nodes = if is_released made keep n then with_released node
 abbrev pub giving_up : List Link → ℕ → ℕ → ℕ → ℕ
 giving_up made keep n set = if is_released made keep n then bit_or set (2 ^ n) else set
 
--- UNLINK OUTCOME, and what stands behind it
+-- UNLINK OUTCOME, and the graph after it
 abbrev pub HasUnlinked : LinkState → List Node → PortId → PortId → ℕ → Unlinked
     → LinkState → List Node → Type 0
 HasUnlinked s nodes from to keep NotThere t after = (are_linked s.made from to ≡ false)

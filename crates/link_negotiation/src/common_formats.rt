@@ -37,7 +37,7 @@ fn settle(alloc: Global, own: &Format, other: &Format) -> Result<Negotiated, Mem
     match filter(alloc, own, other)? {
         Filtered::Common(common) => Ok(Negotiated::Format(fixate(alloc, &common)?)),
         Filtered::Clash { key } => Ok(Negotiated::NoFormat { key }),
-        // Both are Formats, so this does not come.
+        // Both are Formats, so this is never answered.
         Filtered::Types => Ok(Negotiated::NoFormat { key: 0 }),
     }
 }

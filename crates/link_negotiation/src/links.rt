@@ -86,7 +86,7 @@ impl Links {
         self.marks[node as usize] = true;
     }
 
-    /// Whether a link is synchronous: none of its nodes is marked.
+    /// Whether a link is synchronous: neither of its nodes is marked.
     pub(crate) fn is_synchronous(&self, link: &Link) -> bool
         ensures { result ≡ is_synchronous self.now link.now }
     {

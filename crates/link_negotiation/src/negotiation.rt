@@ -161,7 +161,7 @@ impl Links {
     /// holds decides.
     ///
     /// `Twice`: it is there. `Loop`: both ports are of one node; or the link would be synchronous,
-    /// none of its nodes being marked, and a walk along synchronous links leads from the input's
+    /// neither of its nodes being marked, and a walk along synchronous links leads from the input's
     /// node to the output's. `NoFormat`: the output port offers nothing, else the input port does,
     /// else their offers clash, first at this key. `NoBuffers`:
     /// their counts of buffers have no number in common. `Many`: 256 links are there. `Made`: the

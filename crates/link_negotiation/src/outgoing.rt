@@ -6,8 +6,8 @@ ghost use Rattle.link_negotiation.specs.working.Searching.{IsOutgoing};
 use crate::links::{LINKS, Links};
 use pw_graph::NODES;
 
-/// The synchronous links that leave each node, from the last one back. A link is told by how many
-/// links stand up to it; 0 is none.
+/// The synchronous links that leave each node, from the last one back. A link is given by how many
+/// links there are up to it; 0 is none.
 #[derive(Drop)]
 pub struct Outgoing {
     /// Of each node the last link that leaves it.

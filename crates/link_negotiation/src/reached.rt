@@ -28,7 +28,7 @@ impl Reached {
         }
     }
 
-    /// One node alone.
+    /// A single node.
     pub fn of(node: u32) -> Reached
         requires { node < 64 }
         ensures queue { IsQueue result }

@@ -45,7 +45,7 @@ sequence_right : (Held : ℕ → Pod → ℕ → Type 0) (Faults : ℕ → PodFa
 sequence_right Held Faults bytes b e (Ok xs) h = (refl, refl, h)
 sequence_right Held Faults bytes b e (Err f) h = inr (inr (refl, h))
 
--- what is made of a POD that is held stands where the POD ends
+-- what is made of a POD that is held is where the POD ends
 abbrev pub MakesAt : {X : Type 0} → (ℕ → Pod → ℕ → Type 0) → (ℕ → X → ℕ → Type 0) → (ℕ → Pod × ℕ → X × ℕ) → Type 0
 MakesAt Held At made = (q : ℕ) (pod : Pod) (m : ℕ) → Held (q + 8) pod m → At q (made q (pod, m)).0 m × ((made q (pod, m)).1 ≡ m)
 

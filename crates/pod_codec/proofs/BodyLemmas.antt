@@ -26,7 +26,7 @@ pub pod_fixed : (Held : ℕ → Pod → ℕ → Type 0) (step : ℕ → Result (
     → (q : ℕ) (pod : Pod) (m : ℕ) → Held q pod m → (step q ≡ Ok (pod, m)) × (q < m)
 pod_fixed Held step e fixed q pod m h = let s = fixed q pod m h in (s.0, omega (arith, s.1))
 
--- a thing made of two numbers and a POD, as it stands at q
+-- a thing made of two numbers and a POD, as it is at q
 abbrev pub IsMade : {X : Type 0} → (ℕ → Pod → ℕ → Type 0) → (ℕ → X → ℕ → Type 0) → (ℕ → Pod × ℕ → X × ℕ) → Type 0
 IsMade {X = X} Held At made = (q : ℕ) (x : X) (m : ℕ) → At q x m → (pod : Pod) × Held (q + 8) pod m × (made q (pod, m) ≡ (x, m))
 

@@ -1,4 +1,4 @@
--- The canonical spelling of a value that can be written spells it, whatever stands behind.
+-- The canonical spelling of a value that can be written spells it, whatever follows.
 use Rattle.std.proofs.Common.{◌≡◌, ℕ, zero, suc, ◌+◌, ◌-◌, ◌≤◌, ◌<◌, ◌^◌, replicate, inr, List, [], ◌∷◌, ◌++◌, length}
 use Rattle.std.proofs.Common.{map, refl, sym, ap, subst, ◌∙◌, arith, length-append}
 use Rattle.std.specs.List.{flat_map}
@@ -116,7 +116,7 @@ body_spells left bytes b e held (Pod-F.Sequence unit controls) h =
 body_spells left bytes b e held scalar h = let s =
     scalar_spells bytes (form_at scalar).number b scalar refl (omega arith) h.numbers h.stands in (omega (arith, h.end, s.1), s.0)
 
--- the header of what stands framed, and its body
+-- the header of what is framed, and its body
 pub record IsFramed (bytes : List ℕ) (a : ℕ) (f : Form) : Type 0 where
   pub size : u32_at bytes a ≡ length f.body
   pub number : u32_at bytes (a + 4) ≡ f.number

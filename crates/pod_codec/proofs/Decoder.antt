@@ -53,7 +53,7 @@ scalar bytes t b =
     (cond (t == 10) (Pod-F.Rectangle (u32_at bytes b) (u32_at bytes (b + 4)))
     (cond (t == 11) (Pod-F.Fraction (u32_at bytes b) (u32_at bytes (b + 4))) (Pod-F.Fd (cast_signed w64 (u64_at bytes b))))))))))
 
--- the child type and the values of an array or choice, whose children's size and type stand at c
+-- the child type and the values of an array or choice, whose children's size and type are at c
 abbrev pub is_bare : List ℕ → ℕ → Bool
 is_bare bytes c = (u32_at bytes c == 0) && nat_le (u32_at bytes (c + 4)) 1
 

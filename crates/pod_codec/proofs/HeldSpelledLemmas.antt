@@ -17,7 +17,7 @@ use Rattle.pod_codec.proofs.FormLemmas.{keyed_out, control_out}
 use Rattle.pod_codec.proofs.PlaceLemmas.{StandsAt, stands_left, stands_right}
 use Rattle.pod_codec.proofs.ScalarSpelledLemmas.{pair_stands, pair_length}
 
--- what is held, with n levels left, spells where it stands before e
+-- what is held, with n levels left, is spelled where it is, before e
 abbrev pub IsSpelled : ℕ → List ℕ → ℕ → Type 0
 IsSpelled left bytes e = (pod : Pod) (a : ℕ) → Fits left (form_of pod) → NumbersFit left pod → StandsAt bytes a (framed (form_of pod))
     → a + length (framed (form_of pod)) ≤ e → SpellsAt left bytes a e pod (a + length (framed (form_of pod)))
@@ -42,7 +42,7 @@ fields_spell left bytes e held b (x ∷ xs) fits numbers s end =
 keyed_length : (k : Keyed) → length (keyed_bytes k) ≡ 8 + length (framed k.value)
 keyed_length k = omega (arith, length-append (u32_bytes k.first ++ u32_bytes k.second) (framed k.value), pair_length k.first k.second)
 
--- two numbers and a POD stand where they are written
+-- two numbers and a POD are where they are written
 keyed_spells : (left : ℕ) (bytes : List ℕ) (e : ℕ) → IsSpelled left bytes e → (q a b : ℕ) (pod : Pod) (k : Keyed)
     → k ≡ record { first = a; second = b; value = form_of pod }
     → Fits left k.value → (a < 2 ^ 32) × (b < 2 ^ 32) × NumbersFit left pod → StandsAt bytes q (keyed_bytes k)

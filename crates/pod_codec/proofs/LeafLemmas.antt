@@ -41,7 +41,7 @@ whole_four a b e s l h = omega arith
 whole_eight : (a b e : ℕ) → b ≡ a + 8 → b ≤ e → (e - b) % 8 ≡ 0 → (e - a) % 8 ≡ 0
 whole_eight a b e s l h = omega arith
 
--- whole elements fill what they stand in
+-- whole elements fill what they are in
 pub elements_whole : (bytes : List ℕ) (child : ℕ) → 0 < child_size child → (p : ℕ) (pods : List Pod) (e : ℕ)
     → AreAfter (IsElementAt bytes child) p pods e → (e - p) % child_size child ≡ 0
 elements_whole bytes child some p [] e h =

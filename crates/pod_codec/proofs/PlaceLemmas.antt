@@ -1,4 +1,4 @@
--- What stands at a place of bytes: parts, numbers and ranges.
+-- What is at a place of bytes: parts, numbers and ranges.
 use Rattle.std.proofs.Common.{◌≡◌, ℕ, ◌+◌, ◌<◌, ◌^◌, get_or, take, drop, List, ◌∷◌, ◌++◌, length, refl, sym, ap, ◌∙◌, arith}
 use Rattle.std.proofs.Common.{append_assoc}
 use Rattle.std.proofs.lemmas.List.{get_or-drop, drop-drop, drop_at, take_at}

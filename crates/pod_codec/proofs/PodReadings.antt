@@ -21,7 +21,7 @@ pub is_reading : (bytes : List ℕ) → IsReading bytes (reading_of bytes)
 unfolding reading_of
 is_reading bytes = (of_both bytes (has_answer bytes)).1
 
--- a spelling stands within the bytes, and is not long
+-- a spelling is within the bytes, and is not long
 pub front_fits : (bytes : List ℕ) (pod : Pod) (size : ℕ) → FrontSpells bytes pod size → (size ≤ length bytes) × (size ≤ 1048584)
 unfolding SpellsAt
 front_fits bytes pod size h = (h.front.0, omega (arith, h.front.1, h.limit))

@@ -18,7 +18,7 @@ abbrev pub IsFieldFault : (ℕ → Pod → ℕ → Type 0) → (ℕ → PodFault
 IsFieldFault Held Faults b e f = (fields : List Pod) × (q : ℕ) × AreAfter Held b fields q
     × (q < e) × Faults q f
 
--- the two numbers in front of a POD at q are not there, or the POD behind them is at fault
+-- the two numbers in front of a POD at q are not there, or the POD after them is at fault
 abbrev pub IsKeyedFault : (ℕ → PodFault → Type 0) → ℕ → ℕ → PodFault → Type 0
 IsKeyedFault Faults e q f = ((e < q + 8) × (f ≡ Short q)) ⊎ ((q + 8 ≤ e) × Faults (q + 8) f)
 
@@ -43,7 +43,7 @@ IsHeldFault Held Faults bytes t b e f = ((t ≡ 14) × IsFieldFault Held Faults 
     ⊎ (((t ≡ 15) × IsPropFault Held Faults bytes (b + 8) e f)
     ⊎ ((t ≡ 16) × IsControlFault Held Faults bytes (b + 8) e f))
 
--- the body's first check that fails, or, where none does, a fault of what is held
+-- the body's first check that fails, or, where no check does, a fault of what is held
 abbrev pub IsBodyFault : (ℕ → Pod → ℕ → Type 0) → (ℕ → PodFault → Type 0)
     → List ℕ → ℕ → ℕ → ℕ
     → PodFault → Type 0

@@ -14,7 +14,7 @@ pub record Form : Type 0 where
   pub depth : ℕ
   pub sound : Bool
 
--- a value behind two numbers: key and flags of a property, offset and kind of a control
+-- a value after two numbers: key and flags of a property, offset and kind of a control
 pub record Keyed : Type 0 where
   pub first : ℕ
   pub second : ℕ

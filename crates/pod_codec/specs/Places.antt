@@ -1,4 +1,4 @@
--- What stands at a place of bytes: numbers, values of a stated size, and the elements of arrays
+-- What is at a place of bytes: numbers, values of a stated size, and the elements of arrays
 -- and choices. Source: SPA POD, "Types"; spa/pod/pod.h. Places count from the first byte.
 use Rattle.std.specs.Prelude.{◌≡◌, ℕ, ◌+◌, ◌≤◌, ◌<◌, ◌==◌, not, ◌⊎◌, List, [], ◌∷◌, slice_index}
 use Rattle.std.specs.Int.{w32, w64, from_le_bytes, cast_signed}
@@ -49,7 +49,7 @@ abbrev pub IsElementAt : List ℕ → ℕ → ℕ → Pod → ℕ → Type 0
 IsElementAt bytes child p pod m = (m ≡ p + child_size child)
     × IsScalarAt bytes child p (out-Pod pod)
 
--- size and type of the children at c, both 0 or the type 1, and nothing behind them
+-- size and type of the children at c, both 0 or the type 1, and nothing after them
 pub record HasNone (bytes : List ℕ) (c e child : ℕ) (values : List Pod) : Type 0 where
   pub none : values ≡ []
   pub type_one : child ≡ 1

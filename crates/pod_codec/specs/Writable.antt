@@ -25,14 +25,14 @@ Tells (Ok done) P = P
 Tells (Err Unwritable) P = P → ⊥
 Tells (Err Memory) P = Unit {0}
 
--- the same of a body, whose length is looked at when it stands: done where what is inside fits,
+-- the same of a body, whose length is looked at when it is written: done where what is inside fits,
 -- refused where the whole does not
 abbrev pub FitsBody : Result (Unit {0}) WriteFault → ℕ → Form → Type 0
 FitsBody (Ok done) left f = IsTrue f.sound × (f.depth ≤ suc left)
 FitsBody (Err Unwritable) left f = Fits (suc left) f → ⊥
 FitsBody (Err Memory) left f = Unit {0}
 
--- behind what was there before stand a size of 0, the type and the body of a form
+-- after what was there before are a size of 0, the type and the body of a form
 pub record IsOpen (front : List ℕ) (f : Form) (at : ℕ) (bytes : List ℕ) : Type 0 where
   pub place : at ≡ length front
   pub parts : bytes ≡ (front ++ (u32_bytes 0 ++ u32_bytes f.number)) ++ f.body

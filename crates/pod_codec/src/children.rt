@@ -62,7 +62,7 @@ fn elements_at(
 }
 
 /// The child type and the values of the array or choice that begins at `parent`, whose children's
-/// size and type stand at `at`, and whose body ends at `end`.
+/// size and type are at `at`, and whose body ends at `end`.
 pub fn children_at(
     alloc: Global,
     bytes: &[u8],

@@ -1,4 +1,4 @@
-//! The values that stand in others: elements without padding, whole PODs, and their frames.
+//! The values that are in others: elements without padding, whole PODs, and their frames.
 ghost use Rattle.std.specs.Prelude.{◌≡◌, ℕ, List, ◌+◌, ◌-◌, ◌≤◌, ◌<◌, ◌^◌, ◌==◌, ◌++◌, length, take, drop, replicate};
 ghost use Rattle.std.specs.Prelude.{map, IsTrue, OnOk};
 ghost use Rattle.std.specs.List.{flat_map, list_all};
@@ -39,7 +39,7 @@ fn set_u32_at(to: &mut Items<u8>, at: usize, n: u32)
     set_u32(to.as_mut_slice(), at, n);
 }
 
-/// How many bytes stand behind a body, up to a multiple of 8.
+/// How many bytes are after a body, up to a multiple of 8.
 pub fn padding(size: usize) -> usize
     requires { size + 8 < 2 ^ 64 }
     ensures { result ≡ pad8 size - size }

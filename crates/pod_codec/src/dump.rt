@@ -22,7 +22,7 @@ fn word_of(kind: ChoiceKind) -> &'static [u8]
     }
 }
 
-/// Appends the words of an object or a choice behind the first: two numbers and a count.
+/// Appends the words of an object or a choice after the first: two numbers and a count.
 fn put_counted(word: &[u8], n: u32, m: u32, count: usize, text: &mut Text) -> Result<(), Memory>
     ensures { OnOk result (text.new ≡ text.old ++
         (two_numbered word.now n (codes " ") m ++ numbered (codes " ") count)) }
@@ -256,8 +256,8 @@ fn put_controls(controls: &[Control], level: usize, text: &mut Text) -> Result<(
 
 /// The text of a value: one value a line, two spaces of indent a level, each line ended by byte
 /// 0x0A.
-/// What a container holds stands one level deeper; a property or control has a line of its own, and
-/// its value stands under it. Numbers are plain decimal, and bits and bytes lower-case hexadecimal
+/// What a container holds is one level deeper; a property or control has a line of its own, and
+/// its value is under it. Numbers are plain decimal, and bits and bytes lower-case hexadecimal
 /// digits.
 pub fn dump_text(alloc: Global, pod: &Pod) -> Result<Text, Memory>
     ensures { IfOk result (λ text. text ≡ dump_text_of pod.now) }

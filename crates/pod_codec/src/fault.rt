@@ -1,4 +1,4 @@
-//! Why bytes are no POD, and why a value is not written.
+//! Why bytes are not a POD, and why a value is not written.
 ghost use Rattle.std.specs.Prelude.{◌≡◌};
 ghost use Rattle.pod_codec.specs.PodFaults.{pod_fault_number, write_fault_number};
 ghost use Rattle.pod_codec.specs.declared.fault.PodFault.TheVariants as p;
@@ -13,13 +13,13 @@ use pw_lists::Memory;
 pub enum PodFault {
     /// The POD whose header begins there, or the key and flags that do, pass the end.
     Short { offset: u32 },
-    /// The number that stands there is no type, child type or choice type that is read.
+    /// The number that is there is no type, child type or choice type that is read.
     TypeUnknown { offset: u32, number: u32 },
-    /// The size that stands there is not that of its type.
+    /// The size that is there is not that of its type.
     Size { offset: u32 },
     /// The elements of the array or choice that begins there do not fill its body.
     Uneven { offset: u32 },
-    /// The POD that begins there stands in sixteen others.
+    /// The POD that begins there is in sixteen others.
     Deep { offset: u32 },
     /// The outermost body has `size` bytes, more than 1,048,576.
     Large { size: u32 },

@@ -74,7 +74,7 @@ pub struct Control {
     pub value: Pod,
 }
 
-/// What the values of a choice are, behind the first, which is the default.
+/// What the values of a choice are, after the first, which is the default.
 #[derive(Clone, Copy, Debug, PartialEq, Eq, Drop)]
 pub enum ChoiceKind {
     /// Nothing: the first is the value.

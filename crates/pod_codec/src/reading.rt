@@ -171,7 +171,7 @@ fn pod_at(
     }
 }
 
-/// The value of a type, whose body has `size` bytes behind the header at `at`.
+/// The value of a type, whose body has `size` bytes after the header at `at`.
 #[cycle(read)]
 fn body_at(
     alloc: Global,
@@ -269,7 +269,7 @@ fn fields_at(
     Ok(fields)
 }
 
-/// The property of a value, whose key and flags stand at `at`.
+/// The property of a value, whose key and flags are at `at`.
 fn prop_at(bytes: &[u8], at: usize, value: Pod) -> Prop
     requires { at + 8 ≤ length bytes.now }
     ensures key { (out-Prop result).key ≡ u32_at bytes.now at }
@@ -315,7 +315,7 @@ fn props_at(
     Ok(props)
 }
 
-/// The control of a value, whose offset and kind stand at `at`.
+/// The control of a value, whose offset and kind are at `at`.
 fn control_at(bytes: &[u8], at: usize, value: Pod) -> Control
     requires { at + 8 ≤ length bytes.now }
     ensures offset { (out-Control result).offset ≡ u32_at bytes.now at }
@@ -406,10 +406,10 @@ fn front_of(alloc: Global, bytes: &[u8]) -> Result<(Pod, usize), PodFault>
 /// The value that a prefix of the bytes spells, and how long that prefix is with its padding.
 ///
 /// Numbers are little-endian, padding may be anything, and any nonzero Bool is true. The outermost
-/// body has at most 1,048,576 bytes, and values stand at most 16 deep. A fault is the first one: a
-/// POD is checked for its depth, its header, its size (the outermost alone), its body, its type and
-/// then its contents, and what it holds is read in order. What stands behind the prefix is not
-/// looked at. Takes memory for the value alone, and time linear in the prefix.
+/// body has at most 1,048,576 bytes, and values are at most 16 deep. A fault is the first one: a
+/// POD is checked for its depth, its header, its size (only of the outermost), its body, its type
+/// and then its contents, and what it holds is read in order. What follows the prefix is not
+/// looked at. Takes memory only for the value, and time linear in the prefix.
 ///
 /// Public source: PipeWire's documentation, "SPA POD"; `spa/pod/pod.h`.
 pub fn read_pod(alloc: Global, bytes: &[u8]) -> Result<(Pod, usize), PodFault>
@@ -423,7 +423,7 @@ pub fn read_pod(alloc: Global, bytes: &[u8]) -> Result<(Pod, usize), PodFault>
     ensures only_fault { (first : PodFault) → IsFirstFault bytes.now first
         → IsRefusedAs result first }
 
-    // What was written is read back, whatever stands behind; and each choice can be read by its
+    // What was written is read back, whatever follows; and each choice can be read by its
     // child type.
     ensures back { (pod : Pod) (rest : List ℕ) → IsWritable pod → NumbersFit depth_limit pod
         → bytes.now ≡ canonical pod ++ rest → IsReadAs result pod (length (canonical pod)) }

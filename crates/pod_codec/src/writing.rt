@@ -196,7 +196,7 @@ fn put_controls(controls: &[Control], left: u32, to: &mut Items<u8>) -> Result<(
 /// for children, and type 1 with size 0 where there are none of a type. Public source:
 /// `spa/pod/pod.h`.
 ///
-/// `Unwritable` comes just where a value stands deeper than 16, the outermost body is longer than
+/// `Unwritable` is answered just where a value is deeper than 16, the outermost body is longer than
 /// 1,048,576 bytes, or an array or choice has a child type that is not allowed there or a value of
 /// another type. After a fault `to` is as before. Takes memory for the bytes twice; time linear in
 /// them.

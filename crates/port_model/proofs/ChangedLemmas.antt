@@ -24,7 +24,7 @@ set-changed (x ∷ xs) (suc i) d f l = ap (λ ys. x ∷ ys) (set-changed xs i d 
 pub refilled_whole : {X : Type 0} (xs ys : List X) → length ys ≡ length xs → refilled xs ys ≡ ys
 refilled_whole xs ys e = rw (sym e) (take-append-le (length ys) ys (drop (length ys) xs) (omega arith) ∙ take-length ys)
 
--- a write through a slice, which has what stood there, changed
+-- a write through a slice, which has what was there, changed
 pub written : {X : Type 0} (xs seen : List X) (i : ℕ) (d v : X) (f : X → X) → seen ≡ xs → i < length xs → v ≡ f (get_or seen i d)
     → refilled xs (set seen i v) ≡ changed xs i f
 written xs seen i d v f same l e =
@@ -32,7 +32,7 @@ written xs seen i d v f same l e =
     refilled_whole xs (set seen i v) (length-set seen i v ∙ ap length same) ∙ ap (set seen i) e ∙ set-changed seen i d f at
     ∙ ap (λ (ys : List _). changed ys i f) same
 
--- what stands in a changed list: what was changed, or what stood there before
+-- what is in a changed list: what was changed, or what was there before
 pub changed_here : {X : Type 0} (xs : List X) (i : ℕ) (f : X → X) (x : X) → slice_get xs i ≡ Some x
     → slice_get (changed xs i f) i ≡ Some (f x)
 changed_here [] i f x e = elim (none-some x e) [ ]

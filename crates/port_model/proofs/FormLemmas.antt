@@ -19,7 +19,7 @@ use Rattle.port_model.proofs.TakingLemmas.{first_stands}
 use Rattle.port_model.proofs.SharingLemmas.{shared_origin, within_number}
 use Rattle.port_model.proofs.ValueLemmas.{some_of, only_value, own_value}
 
--- an Int of n is a number of n alone
+-- an Int of n is a number of only n
 same_number : (P : ℕ → Type 0) (n : ℕ) → IsNumber P (int_of n) → P n
 same_number P n w = let same : n ≡ w.0 = cc (w.1) in subst P (sym same) w.2
 
@@ -29,7 +29,7 @@ own_number fields key P v a e =
     let only : only_of a.field.choice ≡ Some v = sym (ap (option_and_then (λ (f : Field). only_of f.choice)) a.own) ∙ e in
     a.numbers v (subst (λ (c : Choice). IsMember c v) (sym (only_value a.field.choice v only)) refl)
 
--- the value of a port, by where it comes from
+-- the value of a port, by what gives it
 value_cases : (P : ℕ → Type 0) (node : Node) (s : PortState) (key n : ℕ) → value_of node s key ≡ Some (int_of n)
     → ((f : Format) → s.format ≡ Some f → value_at f.fields key ≡ Some (int_of n) → P n)
     → (shared_value node key ≡ Some (int_of n) → P n)
@@ -107,7 +107,7 @@ has_form node port s sound h =
       ),
     )
 
--- so what tells the form of a port with its format tells one
+-- so what gives the form of a port with its format gives one
 pub form_told : (node : Node) (port : ℕ) (s : PortState) (o : Option (ℕ × ℕ)) → IsSoundPort node.kind port s → IsForm node s o
     → IsSome s.format → IsSome o
 form_told node port s (Some form) sound is h = refl

@@ -15,7 +15,7 @@ use Rattle.port_model.specs.PortState.{IsPort, HasPlace, AtPort, port_count_of, 
 use Rattle.port_model.specs.SoundPorts.{AreSoundNodes, IsSoundNode, IsSoundPort, Agree}
 use Rattle.port_model.proofs.ChangedLemmas.{length-changed, changed_origin, All-changed, written}
 
--- what holds of each thing of a list holds of what stands at a place
+-- what holds of each thing of a list holds of what is at a place
 pub at_place : {X : Type 0} (P : X → Type 0) (xs : List X) (i : ℕ) (x : X) → All P xs → slice_get xs i ≡ Some x → P x
 at_place P xs i x h e = subst P (get_or_from_slice_get xs i x x e) (h i x (slice_get_within xs i x e))
 

@@ -214,7 +214,7 @@ nodes_added nodes kind rate channels sound room r f = record {
   each = All-push IsSoundNode nodes (new_node kind rate channels) sound.each (node_new kind rate channels r f);
 }
 
--- what holds of a list before a push and of the longer one, holds behind it
+-- what holds of a list before a push and of the longer one, holds after it
 pub pushed : {X T E : Type 0} (P : List X → Type 0) (r : Result T E) (new old more : List X) → OnOk r (new ≡ more) → OnErr r (new ≡ old)
     → P old → P more → P new
 pushed P (Ok v) new old more ok err p q = subst P (sym ok) q

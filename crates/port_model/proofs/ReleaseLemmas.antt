@@ -15,7 +15,7 @@ use Rattle.port_model.specs.SoundPorts.{AreSoundNodes, IsSoundNode, IsSoundPort}
 use Rattle.port_model.proofs.ChangedLemmas.{length-changed, All-changed, written, refilled_whole}
 use Rattle.port_model.proofs.NodeLemmas.{node_changed, nodes_changed}
 
--- what stands in the mapped list stood in the list
+-- what is in the mapped list was in the list
 map_origin : (f : PortState → PortState) (o : Option PortState) (s : PortState) → option_map f o ≡ Some s → (t : PortState) × (o ≡ Some t)
     × (s ≡ f t)
 map_origin f (Some t) s e = (t, refl, sym (same_Some (f t) s e))

@@ -30,7 +30,7 @@ use Rattle.port_model.specs.Sharing.{SharesPlain, IsInside, Shares, SharesAll}
 use Rattle.port_model.specs.SoundPorts.{IsNumber, Admits, IsWithin, IsTaken, IsSoundNode}
 use Rattle.port_model.proofs.TakingLemmas.{shared_key, first_stands}
 
--- where the field of a key stands
+-- where the field of a key is
 pub record IsFieldAt (fields : List Field) (key : ℕ) (f : Field) : Type 0 where
   pub place : ℕ
   pub within : place < length fields
@@ -62,7 +62,7 @@ field_here (g ∷ fields) (suc i) f pairs l e =
           ∙ field_here fields i f (λ j k d a b. pairs (suc j) (suc k) d (omega arith) (omega arith)) (omega arith) e
     ]
 
--- one more field admits the shared value, and has it alone
+-- one more field admits the shared value, and has only it
 pub one_more : (node : Node) (fields shared more : List Field) (i : ℕ) (f g : Field) → i < length fields → f ≡ get_or fields i f
     → All (IsInside node) (take i fields) → shared ≡ map (shared_field node) (take i fields)
     → Shares node f (Some g) → more ≡ shared ++ g ∷ [] → All (IsInside node) (take (i + 1) fields)
@@ -98,7 +98,7 @@ first_outside node fields i f sound l e inside step = (f, field_here fields i f 
             | inr (inr more) ↦ (let order = sound.ascending i j f more within in absurd (omega arith))
           ]
 
--- what is offered: the own offer with the shared values alone
+-- what is offered: the own offer with only the shared values
 pub offers_fields : (node : Node) (s : PortState) (fields : List Field) → s.format ≡ None → SharesAll node s.own.fields (Fields fields)
     → Offers node s (Offer (record s.own { fields = fields }))
 offers_fields node s fields free all = (same, ease) where
@@ -137,7 +137,7 @@ offers_nothing node s key free all = (odds, ease) where
       let there = field_place s.own.fields k f found in
       all.3 k f low found v (ap (shared_value node) there.key_is ∙ shared)
 
--- fields with the shared values alone are sound
+-- fields with only the shared values are sound
 one_sound : (node : Node) (f : Field) (o : Option Pod) → shared_value node f.key ≡ o → SharesPlain node → IsSound f.choice
     → IsSound (option_map_or Only o f.choice)
 one_sound node f None e plain sound = sound
@@ -159,7 +159,7 @@ shared_sound node fields plain h = record {
       (λ f s. one_sound node f (shared_value node f.key) refl plain s) fields h.choices);
 }
 
--- a shared value stands in the first format
+-- a shared value is in the first format
 pub shared_origin : (node : Node) (key : ℕ) (v : Pod) → shared_value node key ≡ Some v → (h : Format) × (first_format node.ports ≡ Some h)
     × (value_at h.fields key ≡ Some v) × (is_shared_key node.kind key ≡ true)
 shared_origin node key v e = go (is_shared_key node.kind key) refl (first_format node.ports) refl where

@@ -30,7 +30,7 @@ shared_key Sink key e = inl (eqb-true key 65539 e)
 shared_key Meter key e = inl (eqb-true key 65539 e)
 shared_key Dummy key e = inl (eqb-true key 65539 e)
 
--- the first format stands at some port
+-- the first format is at some port
 pub record IsFirst (ports : List PortState) (format : Format) : Type 0 where
   pub place : ℕ
   pub state : PortState

@@ -1,4 +1,4 @@
--- Choices that are one value, the values of formats, and the value of a port by where it comes from.
+-- Choices that are one value, the values of formats, and the value of a port by what gives it.
 use Rattle.std.proofs.Common.{◌≡◌, ℕ, List, Option, Some, None, refl, sym, ap, ◌∙◌}
 use Rattle.std.specs.Prelude.{IsSome, option_and_then}
 use Rattle.std.specs.Option.{option_map_or, option_or}

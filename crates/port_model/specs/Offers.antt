@@ -1,5 +1,5 @@
 -- What a port offers: its kind's offer, narrowed by files, by the values that its node shares, or
--- its format alone.
+-- only its format.
 -- Source: PipeWire's documentation, "Objects Design", Port; spa/param/format.h, audio/raw.h; kinds
 -- are this project's.
 use Rattle.std.specs.Prelude.{ℕ, ◌==◌, ◌||◌, Bool, map, None}

@@ -33,11 +33,11 @@ shared_value node key =
     if is_shared_key node.kind key
     then option_and_then (λ f. value_at f.fields key) (first_format node.ports) else None
 
--- a field with the shared value alone
+-- a field with only the shared value
 abbrev pub shared_field : Node → Field → Field
 shared_field node f = record f { choice = option_map_or Only (shared_value node f.key) f.choice }
 
--- OFFER of a port: its format alone, else its own offer with the shared values alone
+-- OFFER of a port: only its format, else its own offer with only the shared values
 abbrev pub offer_of : Node → PortState → Format
 offer_of node s = unwrap_or s.format
     (record s.own { fields = map (shared_field node) s.own.fields })

@@ -29,17 +29,17 @@ abbrev pub IsOutside : Node → Field → Type 0
 IsOutside node f = (v : Pod) × (shared_value node f.key ≡ Some v)
     × (IsMember f.choice v → ⊥)
 
--- a field with this value alone, where its choice admits it
+-- a field with only this value, where its choice admits it
 abbrev pub IsNarrowedTo : Field → Pod → Option Field → Type 0
 IsNarrowedTo f v None = IsMember f.choice v → ⊥
 IsNarrowedTo f v (Some g) = IsMember f.choice v × (g ≡ record f { choice = Only v })
 
--- a field with the shared value alone
+-- a field with only the shared value
 abbrev pub Shares : Node → Field → Option Field → Type 0
 Shares node f None = IsOutside node f
 Shares node f (Some g) = IsInside node f × (g ≡ shared_field node f)
 
--- fields with the shared values alone, or the least key at which such a value is not admitted
+-- fields with only the shared values, or the least key at which such a value is not admitted
 abbrev pub SharesAll : Node → List Field → Shared → Type 0
 SharesAll node fields (Fields shared) = All (IsInside node) fields
     × (shared ≡ map (shared_field node) fields)

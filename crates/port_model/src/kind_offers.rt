@@ -34,7 +34,7 @@ const RAW: u32 = 1;
 
 const SIGNED_16: u32 = 0x103;
 
-/// A number as an Int alone.
+/// A number as an Int with no other value.
 fn only(n: u32) -> Choice
     requires { n < 2 ^ 31 }
     ensures { result ≡ choice.Only (int_of n) }

@@ -1,7 +1,7 @@
 //! The ports of a graph: what each offers, its format, and its count of buffers.
 //!
-//! A port offers what its kind does, narrowed by the files of a script, and with the values alone
-//! that the ports of its node share. Once it has a format it offers that alone, until its node
+//! A port offers what its kind does, narrowed by the files of a script, and with only the values
+//! that the ports of its node share. Once it has a format it offers only that, until its node
 //! gives its formats up. `Ports` has all nodes; contracts see it as a list of nodes with the states
 //! of their ports.
 #![tactic(auto)]

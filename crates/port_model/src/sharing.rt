@@ -66,7 +66,7 @@ pub fn shared_value(node: &Node, key: u32) -> Option<&Pod>
     }
 }
 
-/// A field with this value alone, if its choice admits it.
+/// A field with only this value, if its choice admits it.
 fn narrowed_field(alloc: Global, field: &Field, value: &Pod) -> Result<Option<Field>, Memory>
     requires sound { IsSound field.now.choice }
     requires plain { IsOfType 19 value.now → ⊥ }
@@ -83,7 +83,7 @@ fn narrowed_field(alloc: Global, field: &Field, value: &Pod) -> Result<Option<Fi
     }
 }
 
-/// A field with the value alone that the node shares at its key.
+/// A field with only the value that the node shares at its key.
 fn shared_field(alloc: Global, node: &Node, field: &Field) -> Result<Option<Field>, Memory>
     requires sound { IsSound field.now.choice }
     requires plain { SharesPlain node.now }
@@ -95,7 +95,7 @@ fn shared_field(alloc: Global, node: &Node, field: &Field) -> Result<Option<Fiel
     }
 }
 
-/// Fields with the values alone that a node shares, or the least key of such a value that is not
+/// Fields with only the values that a node shares, or the least key of such a value that is not
 /// admitted.
 #[derive(Drop)]
 pub enum Shared {
@@ -103,7 +103,7 @@ pub enum Shared {
     Outside { key: u32 },
 }
 
-/// Fields with the values alone that the node shares.
+/// Fields with only the values that the node shares.
 fn shared_fields(alloc: Global, node: &Node, fields: &[Field]) -> Result<Shared, Memory>
     requires sound { AreSoundFields fields.now }
     requires plain { SharesPlain node.now }
@@ -139,8 +139,8 @@ fn offered_freely(alloc: Global, node: &Node, state: &PortState) -> Result<Offer
 }
 
 impl Ports {
-    /// What a port offers: its format alone, once it has one; else its own offer, in which the keys
-    /// that its node shares have the value alone that a port of the node has in its format. Nothing
+    /// What a port offers: only its format, once it has one; else its own offer, in which the keys
+    /// that its node shares have only the value that a port of the node has in its format. Nothing
     /// where such a value is not in its own offer; the key is the least such one.
     ///
     /// All ports of a node share their rate; those of a gain, mix2 or delay share their channels

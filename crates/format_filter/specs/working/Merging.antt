@@ -1,4 +1,4 @@
--- How two rows of fields are merged: what stands at a place, by its key. Source: this project's
+-- How two rows of fields are merged: what is at a place, by its key. Source: this project's
 -- own.
 use Rattle.std.specs.Prelude.{◌≡◌, ◌⊎◌, ℕ, ◌+◌, ◌<◌, ◌≤◌, List, Option, Some, None, length, drop, slice_range, slice_index_or}
 use Rattle.std.specs.List.{All}
@@ -8,12 +8,12 @@ use Rattle.format_filter.specs.declared.merging.Merged.TheVariants.{Fields, Clas
 use Rattle.format_filter.specs.CommonFormat.{AreSoundFields, field_of, AreClashing, Clashes, IsCommonField}
 use Rattle.format_filter.specs.Soundness.{IsSound}
 
--- at a place stands a field of a key
+-- at a place is a field of a key
 abbrev pub IsKeyAt : List Field → ℕ → ℕ → Type 0
 IsKeyAt fields at key = (at < length fields)
     × ((d : Field) → (slice_index_or fields at d).key ≡ key)
 
--- the place behind what stands at a place under a key, which is one field or none
+-- the place after what is at a place under a key, which is one field or none
 pub record IsBehind (fields : List Field) (at key next : ℕ) : Type 0 where
   pub within : next ≤ length fields
   pub near : (next ≡ at) ⊎ (next ≡ at + 1)

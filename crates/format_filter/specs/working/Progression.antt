@@ -21,7 +21,7 @@ pub record AreSolutions (step other rest : ℕ) (s : Solutions) : Type 0 where
 abbrev pub IsIn : Row → ℤ → Type 0
 IsIn row n = IsReached row.min row.step n × (n ≤ℤ row.max)
 
--- a number of those that are told by how many there are
+-- a number of those that are given by how many there are
 abbrev pub IsOneOf : Numbers → ℤ → Type 0
 IsOneOf Nothing n = ⊥
 IsOneOf (One m) n = n ≡ m

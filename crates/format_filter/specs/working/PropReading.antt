@@ -12,7 +12,7 @@ use Rattle.format_filter.specs.FormatReading.{key_of, ReadsField}
 abbrev pub field_at : BTreeMap ℕ Field → ℕ → Option Field
 field_at fields key = get nat_cmp fields key
 
--- under the key of each property stands its field, and nothing else stands there
+-- under the key of each property is its field, and nothing else is there
 pub record AreRead (props : List Prop) (fields : BTreeMap ℕ Field) : Type 0 where
   pub ordered : IsOrdered nat_cmp fields
   pub distinct : AllPairs (λ p q. key_of p ≢ key_of q) props

@@ -1,4 +1,4 @@
--- A stretch of frames with one gain comes behind those before it.
+-- A stretch of frames with one gain is written after those before it.
 use Rattle.std.proofs.Common.{◌≡◌, ◌+◌, ◌-◌, ◌*◌, ◌/◌, ◌≤◌, ◌∙◌, ◌++◌, length, take, drop, map, refl, ap, arith, ℤ, w32, to_z, of_z}
 use Rattle.std.proofs.lemmas.Int.{ints}
 use Rattle.pw_graph.specs.Samples.{scaled}

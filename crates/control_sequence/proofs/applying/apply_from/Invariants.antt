@@ -1,4 +1,4 @@
--- What is written so far is the stream's, and the points so far are behind.
+-- What is written so far is the stream's, and the points so far are passed.
 use Rattle.std.proofs.Common.{◌≡◌, ◌+◌, ◌-◌, ◌*◌, ◌≤◌, ◌++◌, take, drop}
 use Rattle.control_sequence.specs.Automation.{automated, AreBehind}
 use Rattle.control_sequence.proofs.applying.apply_from.Given as goal

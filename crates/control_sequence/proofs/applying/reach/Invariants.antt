@@ -1,4 +1,4 @@
--- The points so far are behind the frame.
+-- The points so far are at or before the frame.
 use Rattle.std.proofs.Common.{length, ◌-◌}
 use Rattle.control_sequence.specs.Automation.{AreBehind}
 use Rattle.control_sequence.proofs.applying.reach.Given as goal

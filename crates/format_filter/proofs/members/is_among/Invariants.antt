@@ -1,4 +1,4 @@
--- None of the values that are passed is equal.
+-- No value that is passed is equal.
 use Rattle.std.proofs.Common.{take}
 use Rattle.std.specs.List.{Contains}
 use Rattle.format_filter.proofs.members.is_among.Given as goal

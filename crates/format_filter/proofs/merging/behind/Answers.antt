@@ -1,4 +1,4 @@
--- One field of the key stands at the place, or none.
+-- One field of the key is at the place, or none.
 use Rattle.std.proofs.Common.{◌≡◌, ap, sym, ◌∙◌, arith}
 use Rattle.format_filter.specs.declared.format.Field.{Field}
 use Rattle.format_filter.proofs.FieldLemmas.{key_at, behind_one, behind_none, none_after, under}

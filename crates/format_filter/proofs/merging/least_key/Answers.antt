@@ -1,4 +1,4 @@
--- The least key that is left is the lesser one of those that stand first.
+-- The least key that is left is the lesser one of those that are first.
 use Rattle.std.proofs.Common.{◌≡◌, ◌<◌, inl, inr, length, get_or, refl, arith}
 use Rattle.std.proofs.lemmas.Bool.{cases_lt}
 use Rattle.format_filter.proofs.FieldLemmas.{key_at, from_here}

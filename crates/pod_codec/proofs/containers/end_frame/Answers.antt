@@ -1,4 +1,4 @@
--- With its size set and its padding behind it, the open form is framed.
+-- With its size set and its padding after it, the open form is framed.
 use Rattle.std.proofs.Common.{◌≡◌, ℕ, List, ◌+◌, ◌-◌, ◌++◌, length, take, drop, replicate, rules, ◌∙◌, refl, ap}
 use Rattle.pod_codec.specs.Framing.{u32_bytes, pad8}
 use Rattle.pod_codec.proofs.WritingLemmas.{closed}

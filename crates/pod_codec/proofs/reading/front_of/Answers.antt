@@ -1,4 +1,4 @@
--- No POD reaches past 1,048,584 bytes, so the end may stand there.
+-- No POD reaches past 1,048,584 bytes, so the end may be there.
 use Rattle.std.proofs.Common.{◌≡◌, ◌≤◌, length, min, arith}
 use Rattle.pod_codec.specs.Places.{u32_at}
 use Rattle.pod_codec.proofs.ReadingLemmas.{further, outer_fault}

@@ -1,4 +1,4 @@
--- What the fields with the shared values alone make of the own offer.
+-- What the fields with only the shared values make of the own offer.
 use Rattle.std.proofs.Common.{List, subst, sym}
 use Rattle.format_filter.specs.declared.format.Field.{Field}
 use Rattle.format_filter.specs.CommonFormat.{AreSoundFields}

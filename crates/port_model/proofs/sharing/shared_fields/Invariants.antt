@@ -1,4 +1,4 @@
--- What is passed admits the shared values, and has them alone.
+-- What is passed admits the shared values, and has only them.
 use Rattle.std.proofs.Common.{◌≡◌, take, map}
 use Rattle.std.specs.List.{All}
 use Rattle.port_model.specs.Forms.{shared_field}

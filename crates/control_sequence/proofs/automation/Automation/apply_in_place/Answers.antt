@@ -1,4 +1,4 @@
--- A piece of whole frames comes behind those before it.
+-- A piece of whole frames is written after those before it.
 use Rattle.std.proofs.Common.{rules, ◌≡◌, ◌+◌, ◌-◌, ◌*◌, ◌/◌, ◌%◌, ◌≤◌, ◌∙◌, ◌++◌, length, take, drop, refl, ap, arith, ℕ}
 use Rattle.std.proofs.lemmas.Nat.{div-add-mod'}
 use Rattle.control_sequence.specs.Automation.{Stream, automated}

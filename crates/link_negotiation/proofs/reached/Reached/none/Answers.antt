@@ -1,4 +1,4 @@
--- No node is in the queue, and none is reached.
+-- No node is in the queue, and no node is reached.
 use Rattle.link_negotiation.proofs.ReachedLemmas.{queue_none}
 use Rattle.link_negotiation.proofs.reached.Reached.none.Goals as goal
 

@@ -1,4 +1,4 @@
--- A node that is new comes to the end of the queue; one that is reached already changes nothing.
+-- A node that is new is put at the end of the queue; one that is reached already changes nothing.
 use Rattle.link_negotiation.proofs.ReachedLemmas.{queue_more}
 use Rattle.link_negotiation.proofs.reached.Reached.reach.Goals as goal
 
