@@ -1,4 +1,4 @@
--- One cycle, node by node: inputs, outputs, and what is told, against the cycle function.
+-- One cycle, node by node: inputs, outputs, and what is known, against the cycle function.
 use Rattle.std.proofs.Common.{◌≡◌, ◌≢◌, ℕ, zero, suc, ◌+◌, ◌-◌, ◌*◌, ◌<◌, ◌≤◌, Bool, true, false, ◌==◌, nat_le, nat_lt}
 use Rattle.std.proofs.Common.{cond, List, [], ◌∷◌, ◌++◌, map, length, take, get_or, set, filter, fold, All, Some, None, option_map}
 use Rattle.std.proofs.Common.{unwrap_or, slice_get, ℤ, refl, ap, ap₂, sym, ◌∙◌, subst, arith, ⊎_elim, length-set, length-append}
@@ -43,7 +43,7 @@ pub active_in : (plan : Plan) (c : ℕ) (e : Epoch) (node : ℕ) → epoch_at pl
 active_in plan c e node at = ap (λ o. list_any (λ n. n == node) (listed (λ e. map (λ n. n.node) e.shape.nodes) o)) at
     ∙ any_map (λ n. n.node) node e.shape.nodes
 
--- what is told of a port, one entry at a time
+-- what is known of a port, one entry at a time
 given_first : (g : Given) (gs : List Given) (port : PortId) → is_same_port g.port port ≡ true → given_at (g ∷ gs) port ≡ g.samples
 given_first g gs port t = rw t refl
 
@@ -77,7 +77,7 @@ other_port a b ne = rw (ne_eqb a.port b.port ne) (⊎_elim (λ t. rw t refl) (λ
 same_port : (a b : PortId) → a.node ≡ b.node → a.port ≡ b.port → is_same_port a b ≡ true
 same_port a b n p = rw (eq-eqb a.node b.node n, eq-eqb a.port b.port p) refl
 
--- what a node tells
+-- what a node adds to the known samples
 module _ (q : ℕ) (e : Epoch) (k : Kind) (wave : List ℤ) (node : ℕ) (r : Received) where
   g : ℕ → Given
   g o = given_by q e k wave node r o
@@ -196,7 +196,7 @@ module _ (plan : Plan) (waves : List WavIn) (c : ℕ) (e : Epoch) (first : Bool)
     into = filter_passes (λ l. is_same_port l.to port) e.shape.links k d lt;
   }
 
-  -- a late link brings what was told of the cycle before
+  -- a late link brings what was known of the cycle before
   late_is : (n : ℕ) → n ≡ c → (l : ShapeLink) → IsFitting plan e l → c ≢ e.shape.first
       → given_at earlier l.from ≡ outputs plan waves (n - 1) l.from
   late_is zero is l fits ne =
@@ -338,7 +338,7 @@ none_done plan waves c received h = record {
   told = λ port among is_out. absurd (false≢true among);
 }
 
--- after the last node all is received and told
+-- after the last node all is received and known
 pub all_done : (plan : Plan) (waves : List WavIn) (c : ℕ) (e : Epoch) (order : List ℕ) (received : List Received) (now : List Given)
     → epoch_at plan c ≡ Some e → IsWhole e order
     → IsUnderWay plan waves c order received now → AreReceived (length plan.nodes)

@@ -1,4 +1,5 @@
--- How deep a node stands in an epoch: how many active nodes stand before it in an order of the links that are not delayed.
+-- How deep a node is in an epoch: how many active nodes are before it in an order of the links that
+-- are not delayed.
 use Rattle.std.proofs.Common.{◌≡◌, ℕ, zero, suc, ◌+◌, ◌<◌, ◌≤◌, Bool, true, false, ◌&&◌, ◌==◌, nat_lt, List, length, filter, refl}
 use Rattle.std.proofs.Common.{ap, ◌∙◌, subst, arith, ⊎_elim}
 use Rattle.std.specs.List.{range_with_len}
@@ -53,7 +54,7 @@ count_all : (a n : ℕ) → count (λ k. true) a n ≡ n
 count_all a zero = none (λ k. true) a
 count_all a (suc n) = yes (λ k. true) a n refl ∙ ap suc (count_all (a + 1) n)
 
--- how many active nodes stand before a node in an order
+-- how many active nodes are before a node in an order
 pub depth : ℕ → Epoch → (ℕ → ℕ) → ℕ → ℕ
 depth size e rank node = count (λ k. takes_part e k && nat_lt (rank k) (rank node)) 0 size
 

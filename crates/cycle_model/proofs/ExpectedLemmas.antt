@@ -99,7 +99,7 @@ fold_most n (l ∷ ls) some all =
     let top : max 0 l.channels ≡ n = omega (arith, here) in
     ap (λ m. fold (λ top (x : ShapeLink). max top x.channels) m ls) top ∙ fold_stays n ls (All-tail (λ (x : ShapeLink). x.channels ≡ n) l ls all)
 
--- what holds of where each link comes from holds of all such ports
+-- what holds of where each link begins holds of all such ports
 sources_have : (P : PortId → Type 0) (ports : List PortId) (ls : List ShapeLink) → All P ports → All (λ l. P l.from) ls
     → All P (fold (λ ps l. with_port ps l.from) ports ls)
 sources_have P ports [] h each = h

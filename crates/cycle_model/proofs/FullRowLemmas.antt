@@ -132,7 +132,7 @@ module _ (plan : Plan) (waves : List WavIn) (r : IsRenderable plan waves) (size 
       ∙ full k l.from e rank (before 0 plan.epochs k e r.numbered h ne) g part fits.from_output b
       ∙ ap (λ n. plan.quantum * n) fits.from_form
 
-  -- what any link into a port brings, whose node stands no deeper than the bound
+  -- what any link into a port brings, whose node is no deeper than the bound
   brought_full : (k : ℕ) (e : Epoch) (rank : ℕ → ℕ) → epoch_at plan k ≡ Some e → All (Rises rank) e.shape.links → (port : PortId)
       → size * k + depth size e rank port.node ≤ m → (l : ShapeLink) → IsFitting plan e l → Rises rank l → is_same_port l.to port ≡ true
       → length (brought plan out k l) ≡ plan.quantum * l.channels

@@ -172,7 +172,7 @@ module _ (plan : Plan) (waves : List WavIn) (sound : IsSoundPlan plan) (fit : Wa
   kind_is : kind_at plan i ≡ node.kind
   kind_is = ap (λ o. unwrap_or (option_map (λ n. n.kind) o) Dummy) there
 
-  -- what comes in in a cycle in which it is active
+  -- what is received in a cycle in which it is active
   input_is : (k : ℕ) → is_active plan k i ≡ true → (e : Epoch) × (epoch_at plan k ≡ Some e) × (input k ≡ samples e)
   input_is k active =
       let at = of_epoch (epoch_at plan k) i active in

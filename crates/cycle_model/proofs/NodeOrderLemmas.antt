@@ -43,7 +43,7 @@ order_more e order n h more i lt = ⊎_elim
     subst (λ xs. MayFollow e xs (slice_index (order ++ n ∷ []) i)) (sym front) (subst (λ m. MayFollow e order m) (sym here) more))
     (cases_lt i (length order))
 
--- the active nodes that are left, and those that stand in the order
+-- the active nodes that are left, and those that are in the order
 pub record IsMarked (e : Epoch) (order : List ℕ) (left : List Bool) : Type 0 where
   pub long : length left ≡ 64
   pub here : (n : ℕ) → get_or left n false ≡ true → (takes_part e n ≡ true) × (is_among order n ≡ false)
@@ -68,7 +68,7 @@ marked_start e left long marks small = record {
 
 module _ (e : Epoch) (order : List ℕ) (left : List Bool) (n : ℕ) (m : IsMarked e order left) (free : IsFree e.shape.links left n)
     (active : All (λ l. takes_part e l.from.node ≡ true) e.shape.links) where
-  -- a link that is not delayed and comes to the free node comes from one that is done
+  -- a link that is not delayed and leads to the free node leads from one that is done
   ready : All (λ l. l.delayed ≡ false → l.to.node ≡ n → is_among order l.from.node ≡ true) e.shape.links
   ready k d lt prompt to =
       let l : ShapeLink = get_or e.shape.links k d in

@@ -207,7 +207,7 @@ received_idle plan out c node idle =
       b = cond (nat_lt 1 (input_count (kind_at plan node))) (stream_of plan out c (record { node = node; port = 1 })) [];
     } in r) cycles
 
--- what comes to a stream, or to none
+-- what is added to a stream, or to no stream
 appended : (yes : Bool) (old new : List ℤ) → cond yes (cond yes old [] ++ new) (cond yes old []) ≡ cond yes (old ++ new) []
 appended true old new = refl
 appended false old new = refl

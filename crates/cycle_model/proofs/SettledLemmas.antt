@@ -88,7 +88,7 @@ late_agree plan waves r size is out1 out2 m agree (suc k) e rank h g bound l fit
     ∙ agree k l.from e rank (before 0 plan.epochs k e r.numbered h ne) g part b
     ∙ sym (ap (λ n. out2 n l.from) then)
 
--- and any link into a port whose node stands no deeper than the bound
+-- and any link into a port whose node is no deeper than the bound
 brought_agree : (plan : Plan) (waves : List WavIn) → IsRenderable plan waves → (size : ℕ) → size ≡ 64 → (out1 out2 : Outputs) (m : ℕ)
     → AgreeBelow plan size out1 out2 m
     → (k : ℕ) (e : Epoch) (rank : ℕ → ℕ) → epoch_at plan k ≡ Some e → All (Rises rank) e.shape.links → (port : PortId)
@@ -154,7 +154,7 @@ output_agree plan waves out1 out2 c port h =
     }) (port.port - input_count (kind_at plan port.node))))
     (h 0) (h 1)
 
--- a node's input in any cycle up to one in which it stands no deeper than the bound
+-- a node's input in any cycle up to one in which it is no deeper than the bound
 port_agree : (plan : Plan) (waves : List WavIn) → IsRenderable plan waves → (size : ℕ) → size ≡ 64 → (out1 out2 : Outputs) (m : ℕ)
     → AgreeBelow plan size out1 out2 m
     → (c : ℕ) (e : Epoch) (rank : ℕ → ℕ) → epoch_at plan c ≡ Some e → All (Rises rank) e.shape.links → (node : ℕ)

@@ -1,4 +1,5 @@
--- The definitions at work: small plans, each of whose last node is a sink, and what it keeps, by computation alone.
+-- The definitions at work: small plans, each of whose last node is a sink, and what it keeps, by
+-- computation only.
 use Rattle.std.proofs.Common.{◌≡◌, ℕ, true, false, List, [], ◌∷◌, map, ℤ, pos, negsuc, refl}
 use Rattle.pw_graph.specs.declared.ids.PortId.{PortId}
 use Rattle.pw_graph.specs.declared.kind.Kind.{Kind}

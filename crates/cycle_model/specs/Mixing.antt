@@ -16,7 +16,7 @@ use Rattle.wav_files.specs.declared.wav.WavIn.{WavIn}
 use Rattle.pw_graph.specs.Pools.{is_same_port}
 use Rattle.cycle_model.specs.Epochs.{channels_of}
 
--- the place of a node's wave among the waves, or their number where it has none
+-- the place of a node's wave among the waves, or their number where it has no wave
 abbrev pub place_of : List WavIn → ℕ → ℕ
 place_of waves node = position_or_len (λ w. w.node == node) waves
 
@@ -56,7 +56,7 @@ IsSourceOrSink Source = Unit {0}
 IsSourceOrSink Sink = Unit {0}
 IsSourceOrSink _ = ⊥
 
--- PLAIN MIX: sources and sinks alone, in at most one epoch, and no delayed link. There a sink gets
+-- PLAIN MIX: only sources and sinks, in at most one epoch, and no delayed link. There a sink gets
 -- the epoch's mixed row
 pub record IsPlainMix (plan : Plan) : Type 0 where
   pub kinds : All (λ n. IsSourceOrSink n.kind) plan.nodes

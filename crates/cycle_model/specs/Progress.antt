@@ -1,4 +1,4 @@
--- How far the cycle function has come: what each node has received before and after a cycle, and
+-- How far the cycle function has got: what each node has received before and after a cycle, and
 -- what ports gave in it.
 -- Source: PipeWire's documentation, "Graph Scheduling": a node runs after those it depends on.
 use Rattle.std.specs.Prelude.{◌≡◌, ℕ, zero, suc, ◌-◌, ◌*◌, ◌<◌, ◌≤◌, nat_lt, true, List, [], filter, flat_map, length, slice_index_or}
@@ -59,7 +59,7 @@ abbrev pub IsOutputOf : Plan → PortId → Type 0
 IsOutputOf plan port = (input_count (kind_at plan port.node) ≤ port.port)
     × (port.port < port_count (kind_at plan port.node))
 
--- a list tells what each output of an active node gave in a cycle; in the cycle before one
+-- a list says what each output of an active node gave in a cycle; in the cycle before one
 abbrev pub TellsCycle : Plan → Outputs → ℕ → List Given → Type 0
 TellsCycle plan out cycle given = (port : PortId) → is_active plan cycle port.node ≡ true
     → IsOutputOf plan port

@@ -1,4 +1,4 @@
--- What the reference program works with: what is known in a cycle, and how far it has come.
+-- What the reference program works with: what is known in a cycle, and how far it has got.
 -- Source: this project's own.
 pub mod FullRows
 pub mod Known

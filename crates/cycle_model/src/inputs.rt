@@ -9,7 +9,7 @@ use pw_graph::{PortId, ShapeLink, is_same_port};
 use pw_lists::{Items, Memory};
 use std::alloc::Global;
 
-/// What a port gave, nothing if it is not told.
+/// What a port gave, nothing if it is not known.
 fn given_at(given: &[Given], port: PortId) -> &[i16]
     ensures { result.now ≡ given_at given.now port }
 {

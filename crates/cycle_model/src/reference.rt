@@ -27,7 +27,7 @@ fn is_meter(kind: &Kind) -> bool
     }
 }
 
-/// The greatest absolute value, 0 of none.
+/// The greatest absolute value, 0 of no samples.
 fn peak_of(row: &[i16]) -> u32
     ensures { result ≡ peak_of row.now }
 {

@@ -93,7 +93,7 @@ fn receive(
     Ok(())
 }
 
-/// Tells what a node gives at its outputs.
+/// Records what a node gives at its outputs.
 fn give(
     alloc: Global,
     at: &Setting<'_>,

@@ -55,7 +55,7 @@ read_all names bytes rest events r none =
     let whole : trace_lines bytes ≡ r.front = r.lines ∙ ap (λ t. r.front ++ t) none ∙ append-nil r.front in
     subst (λ ls. AllZip (IsLineOf names) ls events) (sym whole) r.told
 
--- the first line that is none
+-- the first line that is no event
 pub first_fault : (names : List (List ℕ)) (bytes rest line : List ℕ) (others : List (List ℕ)) (events : List Event) (number : ℕ)
     → AreRead names bytes rest events → trace_lines rest ≡ line ∷ others
     → IsNoLine names line → number ≡ length events + 1 → IsFirstFault names (trace_lines bytes) number

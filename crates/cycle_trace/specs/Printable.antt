@@ -20,7 +20,7 @@ pub record JoinsPorts (nodes : List PlanNode) (l : LinkLine) : Type 0 where
   pub from : IsPort nodes l.from
   pub to : IsPort nodes l.to
 
--- the number of a node that is there, or of the built-in driver; nodes may stand for their names
+-- the number of a node that is there, or of the built-in driver; nodes may replace their names
 abbrev pub IsNode : {X : Type 0} → List X → ℕ → Type 0
 IsNode nodes node = node ≢ DUMMY → node < length nodes
 
@@ -33,7 +33,7 @@ NamesNodes nodes (Tick cycle late) = (n : ℕ) → n < 64 → late / 2 ^ n % 2 �
     → IsNode nodes n
 NamesNodes nodes (End cycle) = ⊤
 
--- so it is with the lines of the plan, and with the events if a history is told
+-- so it is with the lines of the plan, and with the events if a history is given
 pub record IsPrintable (plan : Plan) (history : Option (List Event)) : Type 0 where
   pub lines : All (JoinsPorts plan.nodes) plan.lines
   pub events : All (NamesNodes plan.nodes) (unwrap_or history [])

@@ -8,7 +8,7 @@ use Rattle.cycle_trace.specs.LinkLines.{link_line}
 use Rattle.cycle_trace.specs.EventLines.{event_line}
 use Rattle.cycle_trace.specs.ResultLines.{result_line}
 
--- the link lines in the script's order, the events if a history is told, and the sinks and meters
+-- the link lines in the script's order, the events if a history is given, and the sinks and meters
 -- ascending by number
 abbrev pub run_text_of : Plan → Option (List Event) → Outcome → List ℕ
 run_text_of plan history outcome =

@@ -1,4 +1,4 @@
--- Reading a trace: which events its lines are the lines of, and its first line that is none.
+-- Reading a trace: which events its lines are the lines of, and its first line that is of no event.
 -- Source: the form is this project's own.
 use Rattle.std.specs.Prelude.{Bool, false, ◌≡◌, ◌≢◌, ℕ, ◌-◌, ◌^◌, ◌<◌, ◌≤◌, ◌==◌, if◌then◌else◌, List, [], ◌∷◌}
 use Rattle.pw_graph.specs.Limits.{nodes_limit}
@@ -58,7 +58,7 @@ pub record IsFirstFault (names : List (List ℕ)) (lines : List (List ℕ))
 abbrev pub is_space : ℕ → Bool
 is_space b = b == 32
 
--- a name that a line can tell: without a space, and not that of the built-in driver
+-- a name that a line can name: without a space, and not that of the built-in driver
 pub record IsName (name : List ℕ) : Type 0 where
   pub whole : All (λ b. is_space b ≡ false) name
   pub other : name ≢ codes "dummy"

@@ -1,4 +1,4 @@
-//! The events that the lines of a trace tell.
+//! The events that the lines of a trace name.
 ghost use Rattle.std.specs.Prelude.{◌≡◌, ℕ, ◌<◌, ◌≤◌, ◌/◌, ◌%◌, ◌^◌, ◌↔◌, List, [], ◌∷◌, ◌++◌, length, decimal};
 ghost use Rattle.pw_graph.specs.Limits.{nodes_limit};
 ghost use Rattle.std.specs.Prelude.{Some, IsTrue, IfOk, IfErr, IfSome, MatchOption};

@@ -9,7 +9,7 @@ ghost use Rattle.cycle_trace.specs.working.EventWords.{node_said, one_node_said,
 use pw_graph::{DUMMY, Event};
 use pw_lists::{Text, next_piece, place_of_name};
 
-/// The number that a word is in plain decimal. What it says of other words is not told.
+/// The number that a word is in plain decimal. What it answers for other words is not stated.
 pub(crate) fn number_said(word: &[u8]) -> Option<u32>
     ensures { (n : ℕ) → n < 2 ^ 32 → word.now ≡ decimal n → result ≡ Some n }
 {

@@ -1,4 +1,4 @@
--- Nodes that come into a search, one after the other.
+-- Nodes that are added to a search, one after the other.
 use Rattle.std.proofs.Common.{◌≡◌, ◌⊎◌, inl, inr, ℕ, ◌+◌, ◌<◌, ◌≤◌, List, [], ◌∷◌, length, get_or, Bool, true, false}
 use Rattle.std.proofs.Common.{not, cond, refl, sym, ap, ◌∙◌, subst, arith, zero, suc, replicate}
 use Rattle.std.specs.List.{count_by, sum_by, All}
@@ -10,7 +10,7 @@ use Rattle.graph_lines.specs.declared.wire.Wire.{Wire}
 use Rattle.graph_lines.specs.Activity.{Joins, IsWalk, AreJoined, HasWire}
 use Rattle.graph_lines.specs.Searching.{is_in, IsWithin, IsClosed, TakesIn, AreIn, Spreads, HasMore}
 
--- what is in stays, and one node comes
+-- what is in stays, and one node is added
 pub still : (here : List Bool) (n m : ℕ) → n < length here → is_in here m ≡ true → is_in (set here n true) m ≡ true
 still here n m l r = elim (cases_eq m n) [
   | inl same ↦ ap (is_in (set here n true)) same ∙ get_or-set_same here n true false l
@@ -32,7 +32,7 @@ fewer here n l e =
     let less : sum_by f (set here n true) + 1 ≡ sum_by f here = omega (arith, sum, one) in
     less
 
--- a pass, as far as it has come
+-- a pass, as far as it has got
 pub record IsSpread (live : List Wire) (old new : List Bool) (more : Bool) (count : ℕ) : Type 0 where
   pub spreads : Spreads live old new
   pub fewer : more ≡ true → count_by not new < count_by not old
@@ -47,7 +47,7 @@ spread_begins live old long = record {
   closed = λ e k d l. absurd (omega (arith, l));
 }
 
--- a link none of whose nodes comes
+-- a link neither of whose nodes is added
 pub spread_same : (live : List Wire) (old here new : List Bool) (more : Bool) (i : ℕ) (d : Wire) → i < length live
     → IsSpread live old here more i → new ≡ here → IsClosed here (get_or live i d) → IsSpread live old new more (i + 1)
 spread_same live old here new more i d l s e closed = subst (λ (x : List Bool). IsSpread live old x more (i + 1)) (sym e) (record {
@@ -62,7 +62,7 @@ spread_same live old here new more i d l s e closed = subst (λ (x : List Bool).
   any_default : (xs : List Wire) (i : ℕ) (d f : Wire) → i < length xs → get_or xs i d ≡ get_or xs i f
   any_default xs i d f l = get_or_default xs i d f l
 
--- a link one of whose nodes comes
+-- a link one of whose nodes is added
 pub spread_more : (live : List Wire) (old here new : List Bool) (more : Bool) (i : ℕ) (d : Wire) → i < length live
     → IsSpread live old here more i → TakesIn (get_or live i d) here new → IsSpread live old new true (i + 1)
 spread_more live old here new more i d l s t =

@@ -102,7 +102,7 @@ module _ (links : List ShapeLink) (here : List Bool) (node i : ℕ) (d : ShapeLi
       ∙ (ap (λ (b : Bool). is_in here n || (not l.delayed && b)) (and_swap (l.to.node == n) (l.from.node == node))
       ∙ (ap (λ (b : Bool). b || joins node n l) (h n) ∙ sym (list_any_more (joins node n) links i d lt))))
 
--- counts read the numbers of the nodes alone
+-- counts read the numbers of the nodes only
 pub counted_again : (shape : Shape) (nodes : List ShapeNode) → map (λ n. n.node) nodes ≡ nodes_of shape → (n : ShapeNode)
     → IsCounted shape n → IsCounted (record shape { nodes = nodes }) n
 counted_again shape nodes e n c = (

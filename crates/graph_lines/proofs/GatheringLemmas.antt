@@ -75,7 +75,7 @@ module _ (ports : List Node) (here : List Bool) (sound : AreSoundNodes ports) (p
     );
   }
 
-  -- a port that has none
+  -- a port that has no format
   pub form_none : ((rate channels : ℕ) → FormIn ports port rate channels → ⊥) → HasFormsBefore ports here next forms
   form_none none = record {
     ascend = h.ascend;
@@ -151,7 +151,7 @@ forms_end ports here count forms sound all h = record {
   );
 }
 
--- what holds of a list behind a push that may fail
+-- what holds of a list after a push that may fail
 pub on_ok : {X T E : Type 0} (P : X → Type 0) (r : Result T E) (new more : X) → OnOk r (new ≡ more) → P more → OnOk r (P new)
 on_ok P (Ok v) new more e h = subst P (sym e) h
 on_ok P (Err x) new more e h = tt

@@ -13,7 +13,7 @@ use Rattle.port_model.proofs.ChangedLemmas.{changed_here}
 use Rattle.link_negotiation.proofs.GivingLemmas.{there, elsewhere}
 use Rattle.link_negotiation.specs.LinkOutcome.{given, formatted}
 
--- a port that has a format is not told to have no form
+-- a port that has a format is not marked as without a form
 not_some : {X : Type 0} (o : Option X) → o ≡ None → IsSome o → ⊥
 not_some o e h = cc
 

@@ -39,7 +39,7 @@ pub input_kept : (nodes after : List Node) (kinds : List Kind) (port : PortId) �
 input_kept nodes after kinds port h k is =
     let first = inputs_by_kind nodes kinds port.node h ∙ sym (inputs_by_kind after kinds port.node k) in omega (arith, first, is)
 
--- what holds of all that may stand in a place holds after a change that keeps it
+-- what holds of all that may be in a place holds after a change that keeps it
 changed_keeps : {X : Type 0} (P : X → Type 0) (xs : List X) (i j : ℕ) (f : X → X) → ((x : X) → P x → P (f x)) → IfSome (slice_get xs j) P
     → IfSome (slice_get (changed xs i f) j) P
 changed_keeps P [] i j f k h = h

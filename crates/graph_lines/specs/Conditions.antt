@@ -1,4 +1,4 @@
--- What stands before a line: the nodes and ports that it names are there, and the links of the
+-- The graph before a line: the nodes and ports that it names are there, and the links of the
 -- graph are those of its wires.
 -- Source: this project's script grammar.
 use Rattle.std.specs.Prelude.{◌≡◌, ◌<◌, length, map}
@@ -14,7 +14,7 @@ use Rattle.graph_lines.specs.declared.graph.Graph.{Graph}
 abbrev pub AreWired : Graph → Type 0
 AreWired g = map (λ w. link_of w.from w.to) g.wires ≡ g.links.made
 
--- a line may stand here: its nodes and ports are there, and it makes no epoch
+-- a line may be here: its nodes and ports are there, and it makes no epoch
 abbrev pub MayDo : Graph → Command → Type 0
 MayDo g (C.Buffers port n) = IsPort g.ports port × IsBetween 1 8 n
 MayDo g (C.Link from to) = IsOutput g.ports from × IsInput g.ports to
@@ -24,7 +24,7 @@ MayDo g (C.Cycles n) = ⊥
 MayDo g C.Drain = ⊥
 MayDo g command = HasNodes (length g.nodes) command
 
--- any line may stand where one that makes no epoch may
+-- what a line may do; for a line that makes no epoch, `MayDo`
 abbrev pub MayStep : Graph → Command → Type 0
 MayStep g (C.Cycles n) = Unit {0}
 MayStep g C.Drain = Unit {0}

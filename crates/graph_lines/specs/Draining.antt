@@ -29,7 +29,7 @@ IsLeft waves g driver rest = (w : WavIn) × Contains waves w
     × IsActive (live_wires g.nodes g.wires) driver w.node
     × (rest_cycles g.quantum g.nodes w ≡ rest)
 
--- DRAIN: the most cycles that a source which is active now has to go; 0 where none has any
+-- DRAIN: the most cycles that a source which is active now has to go; 0 where no source has any
 pub record DrainsFor (waves : List WavIn) (g : Graph) (cycles : ℕ) : Type 0 where
   pub driver : ℕ
   pub drives : IsDriver g.kinds g.nodes driver

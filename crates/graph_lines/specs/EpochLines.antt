@@ -28,7 +28,7 @@ abbrev pub is_formed_sink : Graph → Epoch → ℕ → Bool
 is_formed_sink g e n = is_sink (slice_index_or g.kinds n Dummy)
     && list_any (λ f. f.port.node == n) e.forms
 
--- what is said of a node after an epoch: its channels were told, it ran, and a sink with a form in
+-- what is said of a node after an epoch: its channels were noted, it ran, and a sink with a form in
 -- it keeps its format
 pub record StandsAfter (g : Graph) (e : Epoch) (n : ℕ) (after : Standing) : Type 0 where
   pub told : ChannelsIn g n after.told
@@ -56,7 +56,7 @@ abbrev pub IsTaken : Graph → Epoch → Stepped → Graph → Type 0
 IsTaken g e T.Done after = (passed (sums_with g.kinds g.sums e) ≡ None) × IsAfter g e after
 IsTaken g e (T.Passed which) after = passed (sums_with g.kinds g.sums e) ≡ Some which
 
--- RUN for some cycles: an epoch of them; none makes no epoch, passes no limit, and nothing is
+-- RUN for some cycles: an epoch of them; no cycles make no epoch, pass no limit, and nothing is
 -- forgotten
 abbrev pub RunsFor : Graph → ℕ → Stepped → Graph → Type 0
 RunsFor g zero stepped after = (stepped ≡ T.Done) × (after ≡ g)

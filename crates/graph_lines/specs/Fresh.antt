@@ -1,4 +1,4 @@
--- Nodes that begin anew with an epoch: what was told of each before, and what an epoch names.
+-- Nodes that begin anew with an epoch: what was noted of each before, and what an epoch names.
 -- Source: this project's: a node whose last link went gives up its formats, and its stream starts
 -- anew.
 use Rattle.std.specs.Prelude.{◌≡◌, ◌↔◌, ◌⊎◌, ℕ, ◌<◌, true, AllPairs, Contains}

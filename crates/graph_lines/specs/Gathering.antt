@@ -40,7 +40,7 @@ pub record IsShapeOf (g : Graph) (many : ℕ) (shape : Shape) : Type 0 where
   pub nodes : HasActiveNodes g shape
   pub links : AllZip (IsLinkOf g) (filter (is_used g shape) g.wires) shape.links
 
--- a port stands before another one: its node does, or it does on the same node
+-- a port is before another one: its node is, or it is on the same node
 abbrev pub IsEarlier : PortId → PortId → Type 0
 IsEarlier p q = (p.node < q.node) ⊎ ((p.node ≡ q.node) × (p.port < q.port))
 

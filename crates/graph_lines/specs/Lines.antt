@@ -36,7 +36,7 @@ switched_off s = record s { on = false }
 abbrev pub mark : Standing → Standing
 mark s = record s { marked = true }
 
--- a node is marked, with its links, if it has none yet
+-- a node is marked, with its links, if it has no link yet
 abbrev pub Marks : Graph → ℕ → Graph → Type 0
 Marks g n after = ((has_link g.links.made n ≡ true) × (after ≡ g))
     ⊎ ((has_link g.links.made n ≡ false)

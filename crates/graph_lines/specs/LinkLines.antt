@@ -40,7 +40,7 @@ IsRecorded g from to L.Loop stepped after = NotesAlone g from to O.Looped steppe
 IsRecorded g from to L.Many stepped after =
     (stepped ≡ T.Passed W.Links) × (after.wires ≡ g.wires) × (after.lines ≡ g.lines)
 
--- LINK LINE: the outcome of the link, what stands behind it, and what is noted; nodes and epochs
+-- LINK LINE: the outcome of the link, the graph after it, and what is noted; nodes and epochs
 -- stay
 pub record LinksLine (g : Graph) (from to : PortId) (stepped : Stepped)
     (after : Graph) : Type 0 where

@@ -17,11 +17,11 @@ is_in here n = slice_index_or here n false
 abbrev pub IsWithin : Wire → Type 0
 IsWithin w = (w.from.node < 64) × (w.to.node < 64)
 
--- both nodes of a link are in, or none is
+-- both nodes of a link are in, or neither is
 abbrev pub IsClosed : List Bool → Wire → Type 0
 IsClosed here w = is_in here w.from.node ≡ is_in here w.to.node
 
--- of a link one node was in, and the other came
+-- of a link one node was in, and the other was added
 pub record TakesIn (w : Wire) (old new : List Bool) : Type 0 where
   pub in_node : ℕ
   pub out_node : ℕ
@@ -35,7 +35,7 @@ pub record TakesIn (w : Wire) (old new : List Bool) : Type 0 where
 abbrev pub AreIn : List Wire → ℕ → List Bool → Type 0
 AreIn live d here = (n : ℕ) → is_in here n ≡ true → AreJoined live n d
 
--- the nodes that came are joined to those that were in
+-- the nodes that were added are joined to those that were in
 pub record Spreads (live : List Wire) (old new : List Bool) : Type 0 where
   pub long : length new ≡ 64
   pub stays : (n : ℕ) → is_in old n ≡ true → is_in new n ≡ true

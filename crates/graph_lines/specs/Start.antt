@@ -15,7 +15,7 @@ use Rattle.graph_lines.specs.declared.graph.Graph.{Graph}
 use Rattle.graph_lines.specs.declared.standing.Standing.{Standing}
 use Rattle.graph_lines.specs.Forms.{HasKinds}
 
--- QUANTUM of a script: that of a `quantum` line, which stands first; 1024 without one
+-- QUANTUM of a script: that of a `quantum` line, which is first; 1024 without one
 abbrev pub quantum_in : Command → ℕ
 quantum_in (C.Quantum n) = n
 quantum_in other = 1024

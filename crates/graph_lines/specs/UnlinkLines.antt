@@ -40,7 +40,7 @@ IsTakenAway g from to (U.Gone gave_up) after =
     × (after.nodes ≡ giving gave_up to.node (giving gave_up from.node g.nodes))
     × Notes g from to O.Gone after
 
--- UNLINK LINE: the link goes, and each of its two nodes that has none left gives up its formats,
+-- UNLINK LINE: the link goes, and each of its two nodes that has no link left gives up its formats,
 -- but for those kept
 pub record UnlinksLine (g : Graph) (from to : PortId) (after : Graph) : Type 0 where
   pub keep : ℕ

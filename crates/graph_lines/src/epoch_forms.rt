@@ -12,7 +12,7 @@ use pw_graph::{PortForm, PortId};
 use pw_lists::{Items, Memory};
 
 impl Graph {
-    // The form of a port of a node that is in, behind those of the ports before it.
+    // The form of a port of a node that is in, after those of the ports before it.
     fn add_form(
         &self,
         here: &[bool],
@@ -36,7 +36,7 @@ impl Graph {
         }
     }
 
-    // The forms of the ports of a node that is in, behind those of the nodes before it.
+    // The forms of the ports of a node that is in, after those of the nodes before it.
     fn add_forms(&self, here: &[bool], node: u32, forms: &mut Items<PortForm>) -> Result<(), Memory>
         requires sound { HasReadyNodes self.now.nodes self.now.kinds self.now.ports }
         requires active { is_in here.now node ≡ true }

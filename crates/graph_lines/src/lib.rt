@@ -4,10 +4,10 @@
 //! any line. A line that makes an epoch goes three steps: `epoch_of` reads the epoch off the graph,
 //! `judge` says whether it passes a limit, and `take` takes it. Where several graphs share limits,
 //! `next_epoch` has the epoch that a line would make, and `Sums` are added and judged apart.
-//! `rehearse` follows lines for their links alone, without epochs and sums.
+//! `rehearse` follows lines only for their links, without epochs and sums.
 //!
-//! The pieces of an epoch stand beside: `driver_of` and `active_nodes` by live links, `counted` for
-//! required counts and target lists, `form_in`, and `drain_cycles` for the cycles of a drain.
+//! Beside it are the pieces of an epoch: `driver_of` and `active_nodes` by live links, `counted`
+//! for required counts and target lists, `form_in`, and `drain_cycles` for the cycles of a drain.
 #![tactic(auto)]
 
 mod commands;

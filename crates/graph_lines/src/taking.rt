@@ -1,4 +1,4 @@
-//! What stands after an epoch.
+//! The graph after an epoch.
 ghost use Rattle.std.specs.Prelude.{◌≡◌, ◌+◌, ◌^◌, ◌<◌, ℕ, ◌==◌, length, IfOk, None, slice_index_or};
 ghost use Rattle.std.specs.List.{list_any};
 ghost use Rattle.pw_graph.specs.declared.kind.Kind.TheVariants.{Dummy};
@@ -101,7 +101,7 @@ impl Graph {
     }
 
     /// Takes an epoch whose sums pass no limit: it is one of the epochs, its cycles are counted,
-    /// and each node is told the channels of its first input. A sink that has a form in it keeps
+    /// and each node gets the channels of its first input. A sink that has a form in it keeps
     /// its format from then on. After `Memory` the graph is to be dropped.
     pub fn take(&mut self, epoch: Epoch, sums: Sums) -> Result<Stepped, Memory>
         requires sound { IsReady self.old }

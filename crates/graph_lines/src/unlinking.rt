@@ -75,7 +75,7 @@ fn wires_without(
 }
 
 impl Graph {
-    /// An `unlink` line: takes a link away; each of its nodes that has none left gives up its
+    /// An `unlink` line: takes a link away; each of its nodes that has no link left gives up its
     /// formats, but for a sink that was active in a cycle in which it had a form.
     pub(crate) fn unlink_line(&mut self, from: PortId, to: PortId) -> Result<Stepped, Memory>
         requires from { IsOutput self.old.ports from }

@@ -1,4 +1,5 @@
--- One node more, behind the others, with a wave where it is a source: what a plan asks of ports and waves stays.
+-- One node more, after the others, with a wave where it is a source: what a plan asks of ports and
+-- waves stays.
 use Rattle.std.proofs.Common.{◌≡◌, inl, inr, ℕ, ◌+◌, ◌<◌, ◌==◌, Bool, true, false, cond, List, [], ◌∷◌, ◌++◌, length, map}
 use Rattle.std.proofs.Common.{Option, Some, None, refl, sym, ap, ◌∙◌, subst, arith, rules}
 use Rattle.std.specs.Prelude.{slice_get, IfSome, option_map, count_by}

@@ -12,7 +12,7 @@ use Rattle.graph_lines.specs.EpochLines.{Steps}
 abbrev pub GoesOn : List WavIn → Graph → Line → (Graph → Type 0) → Type 0
 GoesOn waves g l Rest = (next : Graph) × Steps waves g l.command T.Done next × Rest next
 
--- a line passes a limit, and its number is told
+-- a line passes a limit, and its number is answered
 abbrev pub StopsAt : List WavIn → Graph → Line → Result Graph (ℕ × Which) → Type 0
 StopsAt waves g l outcome =
     (which : Which) × (after : Graph) × Steps waves g l.command (T.Passed which) after

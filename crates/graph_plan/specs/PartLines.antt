@@ -1,5 +1,5 @@
 -- The lines of a part: those that make a node, so that all nodes keep their numbers, and those
--- that name nodes of the part alone.
+-- that name only nodes of the part.
 -- Source: this project's.
 use Rattle.std.specs.Prelude.{ℕ, ◌||◌, Bool, List, [], ◌∷◌, filter}
 use Rattle.std.specs.List.{list_all}
@@ -11,7 +11,7 @@ use Rattle.graph_script.specs.declared.script.Script.{Script}
 use Rattle.graph_script.specs.Kinds.{made_by}
 use Rattle.graph_plan.specs.Parts.{is_among}
 
--- the nodes that a command names, of which it makes none
+-- the nodes that a command names, of which it makes no node
 abbrev pub named_by : Command → List ℕ
 named_by (C.Driver node priority) = node ∷ []
 named_by (C.Loop node k) = node ∷ []

@@ -62,7 +62,7 @@ IsParted lines names waves ports (Err F.Memory) = Unit {0}
 IsParted lines names waves ports outcome = (t : Together)
     × IsBegun lines (length names) waves ports t × IsPartsAnswer names waves t lines outcome
 
--- a line whose two nodes are in one part, and an outcome by which no link comes or goes
+-- a line whose two nodes are in one part, and an outcome by which no link is made or taken away
 pub record IsWithin (p : Parts) (l : LinkLine) : Type 0 where
   pub part : Part
   pub there : Contains p.parts part

@@ -31,7 +31,7 @@ gives_up g (C.Unlink from to) n = are_linked g.links.made from to
     && (not (has_link (without from to g.links.made) n) && not (standing g.nodes n).kept))
 gives_up g command n = false
 
--- the first cycle after a giving up that stands before a cycle; else what began before
+-- the first cycle after a giving up before a cycle; else what began before
 abbrev pub begins_after : Graph → Command → ℕ → ℕ → ℕ → ℕ
 begins_after g command cycle n begins =
     if gives_up g command n && nat_le g.first cycle then g.first else begins

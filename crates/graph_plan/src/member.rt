@@ -23,7 +23,7 @@ pub(crate) struct Member {
     pub(crate) graph: Graph,
 }
 
-// Whether a line is one of the part of these nodes: it makes a node, or names these alone.
+// Whether a line is one of the part of these nodes: it makes a node, or names only these.
 fn is_line_of(nodes: &[u32], line: &Line) -> bool
     ensures { result ≡ is_line_of nodes.now line.now }
 {

@@ -106,10 +106,10 @@ fn whole_parts(
 /// lines did.
 ///
 /// Nodes are in one part where a walk joins them over links that the script makes, at whatever
-/// line, also those that it takes away again; parts stand in the order of their least nodes. The
+/// line, also those that it takes away again; parts are in the order of their least nodes. The
 /// lines of a part are those that make a node, so that all nodes keep their numbers, and those that
-/// name nodes of the part alone. A `link` or `unlink` line has its outcome in the part that has its
-/// two nodes, else that in the whole script, where no link between parts comes or goes.
+/// name only nodes of the part. A `link` or `unlink` line has its outcome in the part that has its
+/// two nodes, else that in the whole script, where no link between parts is made or taken away.
 ///
 /// `Limit`: the first line that passes a limit: a `link` line that could be made but for 256 links
 /// that are there, in the whole script or in its part; a `cycles` or `drain` line with whose epochs
@@ -136,7 +136,7 @@ pub fn parts(
 
     // What follows from it: the parts are those of `part_nodes`, and each has the plan of its own
     // lines, which is sound, its waves fit, and its lines join outputs to inputs. No link between
-    // parts comes or goes.
+    // parts is made or taken away.
     ensures nodes { IfOk result (λ p. IsPartition script.now.lines (length script.now.names)
         waves.now ports (map (λ part. part.nodes) p.parts)) }
     ensures each { IfOk result (λ p. All (λ part.

@@ -75,7 +75,7 @@ fn whole_plan(
     }
 }
 
-/// The plan of a script: its quantum, its nodes as they stand at its end, its epochs, and what its
+/// The plan of a script: its quantum, its nodes as they are at its end, its epochs, and what its
 /// link lines did.
 ///
 /// `Limit`: the first line that passes a limit: a `link` line that could be made but for 256 links

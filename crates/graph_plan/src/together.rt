@@ -82,7 +82,7 @@ fn note(
 }
 
 impl Together {
-    // What a line does to all parts, behind what it has done to the whole, and what it did.
+    // What a line does to all parts, after what it has done to the whole, and what it did.
     fn go_on(&mut self, line: &Line, waves: &Items<WavIn>) -> Result<Stepped, Memory>
         requires ready { All (IsReadyFor line.now) self.old.members }
         requires channels { All (λ w. 1 ≤ w.wav.channels) waves.now }

@@ -68,7 +68,7 @@ making-fits reading command name kind said node new e range made there ports non
       epochs = λ yes. cc;
     })
 
--- a command that makes none
+-- a command that makes no node
 saying-fits : (reading : Reading) (command : Command) (said : Said) → saying command ≡ Ok said
     → IsInRange command → HasNodes (length reading.script.names) command → made_by command ≡ None
     → HasPorts reading.kinds command → (is_epoch command ≡ true → epochs_so_far reading < epochs_limit) → IsFit reading said

@@ -49,7 +49,7 @@ pub record IsSpelled (names : List (List ℕ)) (kinds : List Kind) (name : Name)
 abbrev pub IsFrontAfter : Reading → Said → List (List ℕ) → List Kind → Type 0
 IsFrontAfter reading said names kinds = IsFront (reading_after 0 reading (Some said)) names kinds
 
--- a new node's name stands at its number
+-- a new node's name is at its number
 new_word : (reading : Reading) (names : List (List ℕ)) (kinds : List Kind) (command : Command) (name : List ℕ) (kind : Kind) (node : ℕ)
     → new_arg reading name ≡ Ok node
     → IsFrontAfter reading (record { command = command; made = Some (record { name = name; kind = kind }) }) names kinds
@@ -78,7 +78,7 @@ making-spelled reading names kinds command name kind words said node command_nam
       args = args (new_word reading names kinds command name kind node new here);
     })
 
--- a command that makes none
+-- a command that makes no node
 saying-spelled : (names : List (List ℕ)) (kinds : List Kind) (command : Command) (words : List (List ℕ)) (said : Said) (command_name : Name)
     → saying command ≡ Ok said → name_of command ≡ command_name → args_of names kinds command ≡ words
     → IsSpelled names kinds command_name words said

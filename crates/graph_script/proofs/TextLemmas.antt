@@ -9,7 +9,7 @@ use Rattle.std.proofs.lemmas.List.Splits.{slice_split_none, slice_split_at, leng
 use Rattle.graph_script.specs.Lexical.{is_allowed, is_line_feed, is_blank, words_of}
 use Rattle.graph_script.specs.Printing.{spaced}
 
--- a byte that may stand in a line, and one of a word
+-- a byte that may be in a line, and one of a word
 pub record IsLineByte (b : ℕ) : Type 0 where
   pub allowed : is_allowed b ≡ true
   pub in_line : is_line_feed b ≡ false
@@ -75,7 +75,7 @@ kept (piece ∷ pieces) h = at (nat_lt 0 (length piece)) refl (kept pieces (All-
 pub words-are : (line : List ℕ) → All IsLineByte line → All IsWord (words_of line)
 words-are line all = kept (slice_split is_blank line) (pieces_all IsLineByte is_blank line all)
 
--- a line without a line feed, all of whose bytes may stand in a script
+-- a line without a line feed, all of whose bytes may be in a script
 pub line_bytes : (line : List ℕ) → list_all is_allowed line ≡ true → All (λ b. is_line_feed b ≡ false) line → All IsLineByte line
 line_bytes [] e all = All-nil IsLineByte
 line_bytes (b ∷ line) e all =

@@ -16,7 +16,7 @@ is_digit b = is_within 0x30 0x39 b
 abbrev pub is_letter : ℕ → Bool
 is_letter b = is_within 0x61 0x7A b
 
--- digits, at least one, the first not 0 unless it is alone
+-- digits, at least one, the first not 0 unless it is the only one
 abbrev pub is_numeral : List ℕ → Bool
 is_numeral [] = false
 is_numeral (first ∷ rest) =
@@ -61,7 +61,7 @@ is_node_name [] = false
 is_node_name (first ∷ rest) =
     is_letter first && nat_le (length rest) name_rest_limit && list_all is_name_byte rest
 
--- an endpoint is parted by one dot: what stands before it and after it
+-- an endpoint is parted by one dot: what is before it and after it
 abbrev pub is_dot : ℕ → Bool
 is_dot b = b == 0x2E
 

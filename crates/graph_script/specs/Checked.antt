@@ -1,4 +1,4 @@
--- Checked values: a value, or why its line is at fault, found step by step. Source: the whys are
+-- Checked values: a value, or why its line is at fault, found step by step. Source: the causes are
 -- this project's own.
 use Rattle.std.specs.Prelude.{ℕ, List, [], ◌∷◌, length, ok_or, Result, Ok, Err, nat_le, ℤ}
 use Rattle.std.specs.Prelude.{if◌then◌else◌}
@@ -10,7 +10,7 @@ use Rattle.graph_script.specs.Arguments.{number_of, integer_of, channel_list}
 abbrev pub Checked : Type 0 → Type 0
 Checked A = Result A ScriptWhy
 
--- one step, and then what follows from it; the first why stays
+-- one step, and then what follows from it; the first cause stays
 infixl 10 ◌>>=◌
 abbrev pub ◌>>=◌ : {A B : Type 0} → Result A ScriptWhy → (A → Result B ScriptWhy)
     → Result B ScriptWhy

@@ -1,4 +1,4 @@
--- Numbers of the whys of a script's fault, as they are printed; 13 is not used. Source: this
+-- Numbers of the causes of a script's fault, as they are printed; 13 is not used. Source: this
 -- project's own.
 use Rattle.std.specs.Prelude.{ℕ}
 use Rattle.graph_script.specs.declared.fault.ScriptWhy.{ScriptWhy}

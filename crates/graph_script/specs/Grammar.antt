@@ -38,7 +38,7 @@ abbrev pub reading_with : ℕ → Reading → Result (Option Said) ScriptWhy
 reading_with number reading (Ok said) = Ok (reading_after number reading said)
 reading_with number reading (Err why) = Err (F.At number why)
 
--- what comes after lines that were read; a fault stays
+-- what follows lines that were read; a fault stays
 abbrev pub and_then : Result Reading ScriptFault → (Reading → Result Script ScriptFault)
     → Result Script ScriptFault
 and_then (Ok reading) next = next reading

@@ -3,7 +3,7 @@
 use Rattle.std.specs.Prelude.{ℕ, ◌==◌, ◌||◌, ◌&&◌, Bool, true, List, [], ◌∷◌, length, filter, nat_lt, nat_le, slice_index}
 use Rattle.std.specs.List.{slice_split}
 
--- a byte that may stand in a script: tab, line feed, carriage return, space, and what ASCII prints
+-- a byte that may be in a script: tab, line feed, carriage return, space, and what ASCII prints
 abbrev pub is_allowed : ℕ → Bool
 is_allowed b = (b == 0x09) || (b == 0x0A) || (b == 0x0D) || (nat_le 0x20 b && nat_le b 0x7E)
 
@@ -15,7 +15,7 @@ is_line_feed b = b == 0x0A
 abbrev pub is_blank : ℕ → Bool
 is_blank b = (b == 0x09) || (b == 0x0D) || (b == 0x20)
 
--- the lines, each ended by a line feed or by the end; what stands after a last line feed is an
+-- the lines, each ended by a line feed or by the end; what is after a last line feed is an
 -- empty line
 abbrev pub lines_of : List ℕ → List (List ℕ)
 lines_of bytes = slice_split is_line_feed bytes

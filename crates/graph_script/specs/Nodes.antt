@@ -1,4 +1,4 @@
--- Nodes and ports that the lines so far have made, by name. Source: the order of the whys is this
+-- Nodes and ports that the lines so far have made, by name. Source: the order of the causes is this
 -- project's own.
 use Rattle.std.specs.Prelude.{ℕ, ◌+◌, ◌||◌, Bool, true, false, not, List, ◌++◌, length, Option, option_map, is_some, ok_or, Ok, Err}
 use Rattle.std.specs.Prelude.{position, slice_index_or, bytes_eq, codes, if◌then◌else◌}

@@ -6,8 +6,8 @@ use Rattle.graph_script.specs.Limits.{epochs_limit}
 use Rattle.graph_script.specs.Earlier.{is_epoch}
 use Rattle.graph_script.specs.Making.{NamesMade}
 
--- line numbers ascend; no two nodes have one name, and none has that of the built-in driver; epochs
--- are in their limit; a line names only nodes that it or a line before it makes
+-- line numbers ascend; no two nodes have one name, and no node has that of the built-in driver;
+-- epochs are in their limit; a line names only nodes that it or a line before it makes
 pub record HasOrder (script : Script) : Type 0 where
   pub ascend : AllPairs (λ a b. a.line < b.line) script.lines
   pub distinct : AllPairs (λ a b. a ≢ b) script.names

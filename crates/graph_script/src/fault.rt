@@ -23,7 +23,7 @@ pub enum ScriptWhy {
     NameUnknown,
     /// The node's kind has no port of this name, or none on this side of a link.
     PortUnknown,
-    /// A command stands on a line before the quantum.
+    /// A command is on a line before the quantum.
     QuantumLate,
     /// The node is neither a sink nor a meter.
     NotDriverKind,

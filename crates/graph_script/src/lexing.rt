@@ -15,14 +15,14 @@ fn is_blank(b: u8) -> bool
     matches!(b, b'\t' | b'\r' | b' ')
 }
 
-/// Whether each byte may stand in a script.
+/// Whether each byte may be in a script.
 pub(crate) fn is_plain(line: &[u8]) -> bool
     ensures { result ≡ list_all is_allowed line.now }
 {
     line.iter().all(|b| is_allowed(*b))
 }
 
-// How many bytes stand before the first blank.
+// How many bytes are before the first blank.
 fn word_len(text: &[u8]) -> usize
     ensures value { result ≡ position_or_len is_blank text.now }
     ensures within { result ≤ length text.now }

@@ -61,7 +61,7 @@ pub(crate) fn port_at(reading: &Reading, name: &[u8], port: &[u8]) -> Result<Por
     }
 }
 
-// What stands before and after the one dot of a word.
+// What is before and after the one dot of a word.
 fn endpoint_parts(word: &[u8]) -> Option<(&[u8], &[u8])>
     ensures { option_map (λ parts. (parts.0.now, parts.1.now)) result ≡ endpoint_parts word.now }
 {

@@ -13,10 +13,10 @@ use crate::script::Script;
 use pw_lists::next_piece;
 use std::alloc::Global;
 
-/// The script that the bytes are, or the first line at fault with its why, at most 1048576 bytes.
+/// The script that the bytes are, or the first line at fault with its cause, at most 1048576 bytes.
 /// Lines end at a line feed or at the end; a line whose first word begins with `#`, or that has no
 /// word, says nothing. What each command takes, and in which order a line's faults are found,
-/// stands in docs/FORMATS.md. Takes memory for what is read, and time in proportion to the bytes: a
+/// is in docs/FORMATS.md. Takes memory for what is read, and time in proportion to the bytes: a
 /// line looks at the names of at most 63 nodes, and at no line before it.
 #[tactic(auto, unfolding(crate::specs::Grammar::script_of))]
 pub fn parse(alloc: Global, bytes: &[u8]) -> Result<Script, ScriptFault>

@@ -5,7 +5,7 @@ ghost use Rattle.graph_script.specs.Nodes.{input_called, output_called, port_cal
 
 use pw_graph::Kind;
 
-// The first port of this name, from one number up to another, which stands for none.
+// The first port of this name, from one number up to another, which means no port.
 fn port_from(kind: &Kind, name: &[u8], first: u32, end: u32) -> u32
     requires order { first ≤ end }
     requires there { end ≤ port_count kind.now }

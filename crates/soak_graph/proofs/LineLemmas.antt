@@ -24,7 +24,7 @@ lines_more : (f : ℕ → List (List ℕ)) (n : ℕ) → text_of_lines (flat_map
     ≡ text_of_lines (flat_map f (range_with_len 0 n)) ++ text_of_lines (f n)
 lines_more f n = ap text_of_lines (flat_more f n) ∙ flat_map-append ended (flat_map f (range_with_len 0 n)) (f n)
 
--- the lines of one chain more, behind those of the chains so far
+-- the lines of one chain more, after those of the chains so far
 pub text_more : (f : ℕ → List (List ℕ)) (n : ℕ) (old now new : List ℕ) → now ≡ old ++ text_of_lines (flat_map f (range_with_len 0 n))
     → new ≡ now ++ text_of_lines (f n) → new ≡ old ++ text_of_lines (flat_map f (range_with_len 0 (n + 1)))
 text_more f n old now new before here =

@@ -76,7 +76,7 @@ short_text n reading (p ∷ ps) said =
     let here = said.0.short in
     omega arith
 
--- a byte and a word that may stand in a line, by computation
+-- a byte and a word that may be in a line, by computation
 abbrev pub is_word_byte : ℕ → Bool
 is_word_byte b = (is_allowed b && not (is_line_feed b)) && not (is_blank b)
 

@@ -10,7 +10,7 @@ use Rattle.graph_script.specs.declared.script.Script.{Script}
 use Rattle.soak_graph.specs.SoakChains.{chains, gain, delay, off, source_node, gain_node, delay_node}
 use Rattle.soak_graph.specs.SoakText.{digit}
 
--- the sink and the meter, behind the nodes of all chains
+-- the sink and the meter, after the nodes of all chains
 abbrev pub mix_node : ℕ
 mix_node = 3 * chains
 

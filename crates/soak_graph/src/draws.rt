@@ -9,7 +9,7 @@ const MULTIPLIER: u64 = 6364136223846793005;
 
 const INCREMENT: u64 = 1442695040888963407;
 
-/// Where the generator stands: the state after the draws so far.
+/// The generator: the state after the draws so far.
 #[derive(Drop)]
 pub(crate) struct Draws {
     state: u64,

@@ -68,7 +68,7 @@ fn meter_peak(peaks: &[Peak]) -> u64
     }
 }
 
-// A number behind a space.
+// A number after a space.
 fn put_number(text: &mut Text, n: u64) -> Result<(), Memory>
     ensures { OnOk result (text.new ≡ text.old ++ codes " " ++ decimal n) }
 {
@@ -76,7 +76,7 @@ fn put_number(text: &mut Text, n: u64) -> Result<(), Memory>
     append_decimal(text, n)
 }
 
-// A sum behind a space.
+// A sum after a space.
 fn put_sum(text: &mut Text, sum: i64) -> Result<(), Memory>
     ensures { OnOk result (text.new ≡ text.old ++ codes " " ++ signed_decimal sum) }
 {

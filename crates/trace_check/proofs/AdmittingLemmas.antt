@@ -1,4 +1,4 @@
--- Laws of `specs/working/Admitting.antt`: the sets tell which event may come next, and follow it.
+-- Laws of `specs/working/Admitting.antt`: the sets say which event may come next, and follow it.
 use Rattle.std.proofs.Common.{◌≡◌, ℕ, ◌<◌, ◌≤◌, ◌==◌, ◌||◌, ◌↔◌, inl, inr, Bool, true, false, List, [], ◌∷◌, ◌++◌, IsTrue}
 use Rattle.std.proofs.Common.{refl, sym, ◌∙◌, subst, arith}
 use Rattle.std.specs.Prelude.{Contains, IsBitSet}

@@ -16,14 +16,14 @@ use Rattle.trace_check.specs.declared.following.Front.TheVariants.{Part}
 use Rattle.trace_check.specs.working.Fronts.{AreSound, StopAfter, IsFrontOf}
 use Rattle.trace_check.proofs.FrontsLemmas.{take_behind, joined_more, stop_behind, stop_at_end}
 
--- a front of what is behind a front
+-- a front of what is after a front
 taken_on : (es : List Event) (at n : ℕ) → at ≤ length es → take (at + n) es ≡ take at es ++ take n (drop at es)
 taken_on es at n le =
     let long : length (take at es) ≡ at = length-take-le at es le in
     ap (take (at + n)) (sym (take-append-drop at es)) ∙ ap (λ k. take (k + n) (take at es ++ drop at es)) (sym long)
     ∙ take_behind (take at es) (drop at es) n
 
--- behind whole cycles, of the rest of a row
+-- after whole cycles, of the rest of a row
 pub stops_on : (front more : List (Shape × ℕ)) (es : List Event) (at n : ℕ) → at ≤ length es → AreJoined front (take at es)
     → StopAfter more (drop at es) n → StopAfter (front ++ more) es (at + n)
 stops_on front more es at n le h s =
@@ -116,7 +116,7 @@ module _ (epochs : List Epoch) (i : ℕ) (e : Epoch) (lt : i < length epochs) (i
       subst (λ cs. StopAfter cs es (at + n)) same
       (stops_on (of_epochs (take i epochs)) (epoch_cycles e.shape e.shape.cycles ++ (behind ++ later)) es at n le h (stops (behind ++ later) rest))
 
--- behind all epochs
+-- after all epochs
 pub history_ends : (cycles : List (Shape × ℕ)) (es : List Event) (at : ℕ) → at < length es → AreJoined cycles (take at es) → StopAfter cycles es at
 history_ends cycles es at lt h =
     let some : 0 < length (drop at es) = behind_some in

@@ -41,12 +41,12 @@ module _ {X : Type 0} where
 abbrev IsEndless : List Event → Type 0
 IsEndless xs = All (λ e. is_end e ≡ false) xs
 
--- a row without an End has none behind a front
+-- a row without an End has none after a front
 no_end_behind : (i : List Event) (c : ℕ) (r : List Event) → ¬ IsEndless (i ++ End c ∷ r)
 no_end_behind [] c r none = true≢false (All-head (λ e. is_end e ≡ false) (End c) r none)
 no_end_behind (x ∷ i) c r none = no_end_behind i c r (All-tail (λ e. is_end e ≡ false) x (i ++ End c ∷ r) none)
 
--- what stands behind the first End
+-- what follows the first End
 same_end : (i j r s : List Event) (c : ℕ) → IsEndless i → IsEndless j → i ++ End c ∷ r ≡ j ++ End c ∷ s → r ≡ s
 same_end [] [] r s c a b e = cc
 same_end [] (y ∷ j) r s c a b e = let h : End c ≡ y = cc in
@@ -155,7 +155,7 @@ front_goes_on cycles xs ys g = (ys ++ g.0, subst (AreJoined cycles) (append_asso
 pub joined_goes_on : (cycles : List (Shape × ℕ)) (xs : List Event) (n : ℕ) → AreJoined cycles xs → GoOn cycles (take n xs)
 joined_goes_on cycles xs n h = (drop n xs, subst (AreJoined cycles) (sym (take-append-drop n xs)) h)
 
--- one event behind those so far, of a row that goes on to a legal inside and its End
+-- one event after those so far, of a row that goes on to a legal inside and its End
 next_inside : (shape : Shape) (cycle : ℕ) (front : List Event) (e : Event) (more inside rest : List Event) → AreAllowed shape cycle front
     → IsLegalInside shape inside cycle → front ++ e ∷ more ≡ inside ++ End cycle ∷ rest
     → MayFollow shape cycle front e ⊎ ((e ≡ End cycle) × (front ≡ inside))
@@ -203,7 +203,7 @@ module _ (shape : Shape) (cycle : ℕ) (sound : IsSoundShape shape) (later : Lis
     head_of : {x y : Event} {xs ys : List Event} → x ∷ xs ≡ y ∷ ys → x ≡ y
     head_of e = cc
 
-  -- events that stop behind the Begin
+  -- events that stop after the Begin
   pub stop_inside : (rest : List Event) (n : ℕ) → IsFrontInside shape cycle rest (Part n) → StopAfter cycles (Begin cycle ∷ rest) (n + 1)
   stop_inside rest n h = record {
     within = let le : n ≤ length rest = h.0 in omega arith;
@@ -250,7 +250,7 @@ whole_inside shape cycle rest n h =
     subst (AreJoined ((shape, cycle) ∷ [])) (sym taken)
     (join shape cycle [] (take n rest) [] (allowed_legal shape cycle (take n rest) h.1 h.2) joined_none)
 
--- behind whole cycles
+-- after whole cycles
 pub stop_behind : (front more : List (Shape × ℕ)) (p r : List Event) (n : ℕ) → AreJoined front p → StopAfter more r n
     → StopAfter (front ++ more) (p ++ r) (length p + n)
 stop_behind front more p r n h s = record {
@@ -268,7 +268,7 @@ stop_behind front more p r n h s = record {
   illegal = λ j. s.illegal (joined_rest front more p r h j);
 }
 
--- nothing may stand behind all cycles
+-- nothing may follow all cycles
 pub stop_at_end : (rest : List Event) → 0 < length rest → StopAfter [] rest 0
 stop_at_end [] some = absurd (omega arith)
 stop_at_end (x ∷ xs) some = record {

@@ -18,7 +18,7 @@ use Rattle.trace_check.specs.working.NextEvent.{MayFollow, AreAllowed, HaveFinis
 use Rattle.trace_check.proofs.PlaceLemmas.{in_front, front_within, first_from, first_below, first_in, first_within, some_pass, place_is, count_one}
 use Rattle.trace_check.proofs.NextEventLemmas.{started_active}
 
--- the tests tell their events
+-- the tests know their events
 pub start_told : (c n : ℕ) → is_start c n (Start c n) ≡ true
 start_told c n = and_from _ _ ((Decides-eqb c c).1 refl) ((Decides-eqb n n).1 refl)
 

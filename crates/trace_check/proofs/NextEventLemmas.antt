@@ -29,7 +29,7 @@ module _ (shape : Shape) (cycle : ℕ) where
             subst (λ (p : List Event × Event). MayFollow shape cycle p.0 p.1) (λ i. (sym front i, sym here i)) may)
       ]
 
-  -- the event behind a front
+  -- the event after a front
   pub allowed_next : (xs ys : List Event) (e : Event) → AreAllowed shape cycle (xs ++ e ∷ ys) → MayFollow shape cycle xs e
   allowed_next xs ys e all =
       let long : length (xs ++ e ∷ ys) ≡ length xs + length (e ∷ ys) = length-append xs (e ∷ ys) in

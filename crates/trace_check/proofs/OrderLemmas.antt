@@ -37,7 +37,7 @@ node_more nodes i d set new lt old gains n small =
       λ c. (gains n small).1 (elim (Contains-push_cases before x n c) [ inl f ↦ inl ((old n small).1 f) | inr e ↦ inr (sym e) ]),
     )
 
--- one link more: it comes to the node, or not
+-- one link more: it leads to the node, or not
 joins_is : (m n : ℕ) (l : ShapeLink) → joins m n l ≡ true → (l.delayed ≡ false) × (l.from.node ≡ m) × (l.to.node ≡ n)
 joins_is m n l t =
     let a = and_parts (not l.delayed) ((l.from.node == m) && (l.to.node == n)) t in
@@ -81,7 +81,7 @@ delayed_joins_none l node m e = false_from_ne_true (joins m node l) (λ t. true�
 pub other_joins_none : (l : ShapeLink) (node m : ℕ) → ¬ (l.to.node ≡ node) → joins m node l ≡ false
 other_joins_none l node m ne = false_from_ne_true (joins m node l) (λ t. ne (joins_is m node l t).2)
 
--- a follower is preceded by the nodes from which links come to it
+-- a follower is preceded by the nodes from which links lead to it
 module _ (shape : Shape) (sound : IsSoundShape shape) (n : ℕ) (follows : ¬ (n ≡ shape.driver)) where
   linked_precedes : (m : ℕ) → are_linked shape m n ≡ true → Precedes shape m n
   linked_precedes m t =

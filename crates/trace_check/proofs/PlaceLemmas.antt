@@ -1,4 +1,4 @@
--- Where the first element stands that passes a test, how many pass, and what stands in a front of a list.
+-- Where the first element is that passes a test, how many pass, and what is in a front of a list.
 use Rattle.std.proofs.Common.{◌≡◌, ℕ, zero, suc, ◌+◌, ◌<◌, ◌≤◌, ◌⊎◌, inl, inr, Bool, true, false, cond, List, [], ◌∷◌}
 use Rattle.std.proofs.Common.{length, get_or, take, refl, sym, ap, ◌∙◌, subst, arith}
 use Rattle.std.specs.Prelude.{count_by, All, Contains}
@@ -10,24 +10,24 @@ use Rattle.std.proofs.lemmas.List.Folds.{Any-from_list_any, list_any_at}
 use Rattle.std.proofs.lemmas.List.Sums.{sum_by-cons, fails_before_first, passes_at_first}
 
 module _ {X : Type 0} where
-  -- an element before a place stands in the front up to it
+  -- an element before a place is in the front up to it
   pub in_front : (xs : List X) (j k : ℕ) (d : X) → j < k → k ≤ length xs → Contains (take k xs) (get_or xs j d)
   in_front xs j k d lt le = let l : length (take k xs) ≡ k = length-take-le k xs le in
       subst (Contains (take k xs)) (get_or-take k xs j d lt) (Contains-get_or (take k xs) j d (omega arith))
 
-  -- and what stands in it stands before the place
+  -- and what is in it is before the place
   pub from_front : (xs : List X) (k : ℕ) (x : X) → Contains (take k xs) x → (j : ℕ) × (j < k) × (j < length xs) × (get_or xs j x ≡ x)
   from_front xs k x c =
       let lt : c.0 < length (take k xs) = c.1 in
       let short : c.0 < k = omega (arith, length-take k xs) in
       (c.0, short, omega (arith, length-take k xs), sym (get_or-take k xs c.0 x short) ∙ c.2)
 
-  -- what stands in a front stands in the list
+  -- what is in a front is in the list
   pub front_within : (xs : List X) (k : ℕ) (x : X) → Contains (take k xs) x → Contains xs x
   front_within xs k x c = let f = from_front xs k x c in (f.0, f.2, f.3)
 
 module _ {X : Type 0} (f : X → Bool) where
-  -- none that passes stands before a place: the first is not before it
+  -- no element that passes is before a place: the first is not before it
   pub first_from : (xs : List X) (k : ℕ) (d : X) → k ≤ length xs → ((x : X) → f x ≡ true → ¬ Contains (take k xs) x)
       → k ≤ position_or_len f xs
   first_from xs k d le none = elim (cases_lt (position_or_len f xs) k) [
@@ -36,7 +36,7 @@ module _ {X : Type 0} (f : X → Bool) where
     | inr ge ↦ ge
   ]
 
-  -- one that passes stands before a place: the first does
+  -- one that passes is before a place: the first does
   pub first_below : (xs : List X) (k : ℕ) (x : X) → f x ≡ true → Contains (take k xs) x → position_or_len f xs < k
   first_below xs k x t c = elim (cases_lt (position_or_len f xs) k) [
     | inl lt ↦ lt

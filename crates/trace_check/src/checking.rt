@@ -18,8 +18,8 @@ use std::alloc::Global;
 pub enum Verdict {
     /// A legal history of its epochs.
     Legal,
-    /// None; `at` is the number, from 1, of the first event after which none can follow, or one
-    /// past the last where events are missing alone.
+    /// No legal history; `at` is the number, from 1, of the first event after which no legal
+    /// history can follow, or one past the last event if the trace is only too short.
     Illegal { at: u32 },
 }
 

@@ -43,7 +43,7 @@ fn is_end_of(event: &Event, in_cycle: u32) -> bool
     }
 }
 
-// How far the events behind a Begin go on. Cost: one look at each event.
+// How far the events after a Begin go on. Cost: one look at each event.
 fn follow_inside(order: &Order, shape: &Shape, cycle: u32, events: &[Event]) -> Front
     requires sound { IsSoundShape shape.now }
     requires order { IsOrderOf shape.now order.now }

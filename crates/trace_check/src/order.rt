@@ -32,7 +32,7 @@ fn active_nodes(nodes: &[ShapeNode]) -> u64
     set
 }
 
-// The nodes from which a link that is not delayed comes to a node.
+// The nodes from which a link that is not delayed leads to a node.
 fn sources_of(links: &[ShapeLink], node: u32) -> u64
     requires { All IsWithinNodes links.now }
     ensures { IsSetOf result (λ m. IsTrue (list_any (joins m node) links.now)) }

@@ -13,7 +13,7 @@ pub(crate) struct SoFar {
     pub(crate) ticked: bool,
 }
 
-/// Behind the Begin of a cycle: nothing.
+/// After the Begin of a cycle: nothing.
 pub(crate) fn nothing_yet(_cycle: u32) -> SoFar
     ensures { StandsFor _cycle [] result }
 {

@@ -10,7 +10,7 @@ use Rattle.pw_graph.specs.Pools.{is_same_port}
 use Rattle.cycle_model.specs.declared.received.Given.{Given}
 use Rattle.cycle_model.specs.Epochs.{channels_of}
 
--- what a port gave, nothing if it is not told
+-- what a port gave, nothing if it is not known
 abbrev pub given_at : List Given → PortId → List ℤ
 given_at given port = unwrap_or
     (option_map (λ g. g.samples) (find (λ g. is_same_port g.port port) given)) []

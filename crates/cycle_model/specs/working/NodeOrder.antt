@@ -9,8 +9,8 @@ use Rattle.cycle_model.specs.Mixing.{takes_part}
 abbrev pub is_among : List ℕ → ℕ → Bool
 is_among nodes node = list_any (λ n. n == node) nodes
 
--- an active node that may come after these: it is none of them, and each link into it that is not
--- delayed comes from one of them
+-- an active node that may come after these: it is not one of them, and each link into it that is
+-- not delayed leads from one of them
 pub record MayFollow (epoch : Epoch) (done : List ℕ) (node : ℕ) : Type 0 where
   pub active : takes_part epoch node ≡ true
   pub other : is_among done node ≡ false

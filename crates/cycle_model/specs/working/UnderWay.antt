@@ -1,4 +1,4 @@
--- How far a cycle has come, and what is known of it before.
+-- How far a cycle has got, and what is known of it before.
 -- Source: PipeWire's documentation, "Graph Scheduling": a node runs after those it depends on.
 use Rattle.std.specs.Prelude.{◌≡◌, ℕ, suc, ◌<◌, true, false, List, All, Some, length, slice_index_or}
 use Rattle.pw_graph.specs.declared.ids.PortId.{PortId}
@@ -14,7 +14,7 @@ use Rattle.wav_files.specs.declared.wav.WavIn.{WavIn}
 use Rattle.cycle_model.specs.working.Known.{given_at}
 use Rattle.cycle_model.specs.Progress.{received_until, received_before, nothing, IsOutputOf, TellsBefore}
 
--- how far a cycle has come: these nodes are done
+-- how far a cycle has got: these nodes are done
 pub record IsUnderWay (plan : Plan) (waves : List WavIn) (c : ℕ) (done : List ℕ)
     (received : List Received)
     (now : List Given) : Type 0 where

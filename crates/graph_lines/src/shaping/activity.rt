@@ -40,7 +40,7 @@ pub fn live_wires(alloc: Global, nodes: &[Standing], wires: &[Wire]) -> Result<I
     Ok(live)
 }
 
-// Where one node of a link is in, the other comes. Says whether one came.
+// Where one node of a link is in, the other is added. Says whether one was.
 fn take_in(here: &mut [bool], wire: &Wire) -> bool
     requires long { length here.old ≡ 64 }
     requires within { IsWithin wire.now }
@@ -61,7 +61,7 @@ fn take_in(here: &mut [bool], wire: &Wire) -> bool
     true
 }
 
-// One look at each link. Says whether a node came.
+// One look at each link. Says whether a node was added.
 fn spread(live: &[Wire], here: &mut [bool]) -> bool
     requires long { length here.old ≡ 64 }
     requires within { All IsWithin live.now }
@@ -77,7 +77,7 @@ fn spread(live: &[Wire], here: &mut [bool]) -> bool
     more
 }
 
-// Of the 64 numbers one alone.
+// Of the 64 numbers only one.
 fn only(node: u32) -> [bool; NODES]
     requires { node < 64 }
     ensures { result ≡ slice_set (replicate 64 false) node true }

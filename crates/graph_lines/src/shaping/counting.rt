@@ -95,7 +95,7 @@ fn followers_of(links: &[ShapeLink], node: u32) -> [bool; NODES]
     here
 }
 
-// Whether a node waits for `m`, where the nodes with a link to it are told.
+// Whether a node waits for `m`, where the nodes with a link to it are given.
 fn is_waiting(shape: &Shape, sources: &[bool], node: u32, m: u32) -> bool
     requires { (m : ℕ) → is_in sources.now m ≡ are_linked shape.now m node }
     ensures { result ≡ waits shape.now node m }
@@ -119,7 +119,8 @@ fn required_of(shape: &Shape, node: u32) -> u32
     count
 }
 
-// Whether a node is a follower that waits for `m`, where the nodes that `m` has a link to are told.
+// Whether a node is a follower that waits for `m`, where the nodes that `m` has a link to are
+// given.
 fn is_target(shape: &Shape, followers: &[bool], m: u32, node: u32) -> bool
     requires { (n : ℕ) → is_in followers.now n ≡ are_linked shape.now m n }
     ensures { result ≡ (not (node == shape.now.driver) && waits shape.now node m) }

@@ -1,4 +1,4 @@
--- Things of lists: those that pass a test, those that stand for others, and lists side by side.
+-- Things of lists: those that pass a test, those that replace others, and lists side by side.
 use Rattle.std.proofs.Common.{◌≡◌, ℕ, zero, suc, ◌<◌, List, [], ◌∷◌, length, get_or, map, Bool, true, false, cond}
 use Rattle.std.proofs.Common.{refl, sym, ap, ◌∙◌, subst, arith, ◌==◌}
 use Rattle.std.specs.Prelude.{slice_get, IfSome, Some}
@@ -12,7 +12,7 @@ use Rattle.port_model.specs.PortState.{changed}
 pub behind : {X : Type 0} (y : X) (ys : List X) (x : X) → Contains ys x → Contains (y ∷ ys) x
 behind y ys x w = (let l = w.1 in (suc w.0, omega arith, w.2))
 
--- what passes stands among all, and passes
+-- what passes is among all, and passes
 module _ {X : Type 0} (p : X → Bool) where
   found : (y : X) (ys : List X) (x : X) → (Contains (filter p ys) x → Contains ys x × (p x ≡ true)) → (b : Bool) → p y ≡ b
       → Contains (cond b (y ∷ filter p ys) (filter p ys)) x → Contains (y ∷ ys) x × (p x ≡ true)
@@ -39,7 +39,7 @@ module _ {X : Type 0} (p : X → Bool) where
   pub kept : (xs : List X) (x : X) → Contains xs x → p x ≡ true → Contains (filter p xs) x
   kept xs x w t = kept_at xs w.0 x w.1 w.2 t
 
--- what stands for a thing stands among what stands for all
+-- what replaces a thing is among what replaces all
 pub stands_for : {X Y : Type 0} (f : X → Y) (xs : List X) (x : X) → Contains xs x → Contains (map f xs) (f x)
 stands_for f xs x w = go xs w.0 w.1 w.2 where
   go : (ys : List _) (k : ℕ) → k < length ys → get_or ys k x ≡ x → Contains (map f ys) (f x)
@@ -47,14 +47,14 @@ stands_for f xs x w = go xs w.0 w.1 w.2 where
   go (y ∷ ys) zero l e = (0, omega arith, ap f e)
   go (y ∷ ys) (suc k) l e = behind (f y) (map f ys) (f x) (go ys k (omega arith) e)
 
--- a number that a test finds stands there
+-- a number that a test finds is there
 pub number_found : (xs : List ℕ) (n : ℕ) → list_any (λ m. m == n) xs ≡ true → Contains xs n
 number_found xs n e =
     let w = Any-from_list_any (λ (m : ℕ). m == n) xs e in
     let same : w.1 ≡ n = eqb-true w.1 n w.4 in
     (w.0, w.2, subst (λ (m : ℕ). get_or xs w.0 m ≡ m) same w.3)
 
--- what stands at a place of a list stands in it
+-- what is at a place of a list is in it
 pub contains_at : {X : Type 0} (xs : List X) (k : ℕ) (x : X) → slice_get xs k ≡ Some x → Contains xs x
 contains_at [] k x e = absurd (cc e)
 contains_at (y ∷ ys) zero x e = (0, omega arith, (let same : y ≡ x = cc in same))
@@ -88,7 +88,7 @@ module _ {A B : Type 0} (R : A → B → Type 0) where
   zip_all P (x ∷ xs) (y ∷ ys) h w = All-cons P y ys (h x y (0, omega arith, refl) w.0)
       (zip_all P xs ys (λ a b c r. h a b (behind x xs a c) r) w.1)
 
--- what stands in a list one of whose things is changed
+-- what is in a list one of whose things is changed
 pub changed_keeps : {X : Type 0} (Q : X → Type 0) (xs : List X) (i j : ℕ) (f : X → X) → ((x : X) → Q x → Q (f x))
     → IfSome (slice_get xs j) Q → IfSome (slice_get (changed xs i f) j) Q
 changed_keeps Q [] i j f h w = w

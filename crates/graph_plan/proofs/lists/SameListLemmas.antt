@@ -57,7 +57,7 @@ same_zip R one (x ∷ xs) [] zs h k = absurd h
 same_zip R one (x ∷ xs) (y ∷ ys) [] h k = absurd k
 same_zip R one (x ∷ xs) (y ∷ ys) (z ∷ zs) h k = ap₂ (λ a cs. a ∷ cs) (one x y z h.0 k.0) (same_zip R one xs ys zs h.1 k.1)
 
--- lists of things that are told by a number and by what holds of them
+-- lists of things that are given by a number and by what holds of them
 pub same_by : {X Y : Type 0} (f : X → Y) (P Q : X → Type 0) → ((x y : X) → f x ≡ f y → P x → Q y → x ≡ y) → (xs ys : List X)
     → map f xs ≡ map f ys → All P xs → All Q ys → xs ≡ ys
 same_by f P Q one [] [] e h k = refl

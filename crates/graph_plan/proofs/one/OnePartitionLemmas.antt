@@ -1,4 +1,5 @@
--- A script has one partition: a part is told by its least node, and parts stand in the order of these.
+-- A script has one partition: a part is given by its least node, and parts are in the order of
+-- these.
 use Rattle.std.proofs.Common.{◌≡◌, ℕ, zero, suc, ◌<◌, ◌≤◌, List, [], ◌∷◌, length, get_or, Some, sym, subst, arith}
 use Rattle.std.specs.Prelude.{AllPairs, Contains, slice_get}
 use Rattle.std.proofs.lemmas.Option.{same_Some, none-some}

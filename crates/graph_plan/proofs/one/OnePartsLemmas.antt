@@ -493,7 +493,7 @@ module _ (names : List (List ℕ)) (waves : List WavIn) (kinds : List Kind) (lin
   answers_one (Err (F.Limit l v)) (Err F.Memory) a b h k = absurd b
   answers_one (Err F.Memory) y a b h k = absurd a
 
--- what is answered, if it is told
+-- what is answered, if it is given
 from_begun : (lines : List Line) (names : List (List ℕ)) (waves : List WavIn) (ports : List Node) (r : Result Parts PlanFault) → AreAnswered r
     → IsParted lines names waves ports r → (t : Together) × IsBegun lines (length names) waves ports t × IsPartsAnswer names waves t lines r
 from_begun lines names waves ports (Ok p) a h = h

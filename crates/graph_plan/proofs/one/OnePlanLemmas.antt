@@ -118,7 +118,7 @@ start_one lines ports a b h k =
     ∙ (ap (λ (x : ℕ). record b { first = x; sums = a.sums }) (h.first ∙ sym k.first)
     ∙ ap (λ (x : Sums). record b { sums = x }) (h.sums ∙ sym k.sums))))))))))
 
--- what is planned from a start, if it is told
+-- what is planned from a start, if it is given
 from_start : (lines : List Line) (names : List (List ℕ)) (waves : List WavIn) (ports : List Node) (r : Result Plan PlanFault) → IsAnswered r
     → IsPlanned lines names waves ports r → (start : Graph) × IsStart lines ports start × IsAnswer names waves start lines r
 from_start lines names waves ports (Ok plan) a h = h

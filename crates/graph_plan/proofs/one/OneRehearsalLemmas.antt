@@ -40,7 +40,7 @@ use Rattle.graph_plan.proofs.parts.RehearsalLemmas.{rehearsal_kinds}
 use Rattle.graph_plan.proofs.sound.StepLemmas.{IsGoodLine, AreGoodLines, good_first, good_rest, step_sound}
 use Rattle.graph_plan.proofs.one.OneStepLemmas.{IsOneStep, step_one}
 
--- PAST AN EPOCH a sound graph is sound: nothing is told, and a sink with frames keeps them
+-- PAST AN EPOCH a sound graph is sound: nothing is noted, and a sink with frames keeps them
 module _ (g : Graph) (e : Epoch) where
   abbrev row : List Standing
   row = map (standing_past g e) (range_with_len 0 (length g.nodes))

@@ -1,4 +1,5 @@
--- No link between parts comes or goes: what the whole makes joins its nodes, and what it takes away was made.
+-- No link between parts is made or taken away: what the whole makes joins its nodes, and what it
+-- takes away was made.
 use Rattle.std.proofs.Common.{◌≡◌, ◌⊎◌, inl, inr, ℕ, zero, suc, ◌-◌, ◌<◌, ◌&&◌, Bool, true, false, cond, List, [], ◌∷◌, ◌++◌, length, map, drop, get_or}
 use Rattle.std.proofs.Common.{Option, Some, None, refl, sym, ap, ◌∙◌, subst, arith}
 use Rattle.std.specs.Prelude.{All, Contains, Result, Ok, Err, IfOk, find, slice_get, option_to_list}
@@ -136,7 +137,7 @@ taken_away g after from to keep (U.Gone set) wired o h = (
   inr (was_linked g.wires from to (subst (λ (ls : List Link). list_any (joins from to) ls ≡ true) (sym wired) o.0)),
 )
 
--- LINKS after a line stood before it, or are new
+-- LINKS after a line were there before it, or are new
 abbrev IsOldOrNew : Graph → Graph → Type 0
 IsOldOrNew g after = (w : Wire) → Contains after.wires w → Contains g.wires w ⊎ Contains (drop (length g.wires) after.wires) w
 

@@ -222,7 +222,7 @@ module _ (waves : List WavIn) (g : Graph) where
   none_makes (C.Cycles n) made run h = absurd (is_not run)
   none_makes C.Drain made run h = absurd (is_not run)
 
--- it leaves the sums, and passes the limit of links alone
+-- it leaves the sums, and passes only the limit of links
 marks_sums : (g after : Graph) (n : ℕ) → Marks g n after → after.sums ≡ g.sums
 marks_sums g after n (inl h) = ap (λ (x : Graph). x.sums) h.1
 marks_sums g after n (inr h) = ap (λ (x : Graph). x.sums) h.1

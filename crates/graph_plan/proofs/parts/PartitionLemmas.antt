@@ -82,10 +82,10 @@ module _ (count : ℕ) (made : List Wire) (node : ℕ) (parts : List (List ℕ))
     ];
   }
 
-  -- a node that is in none
+  -- a node that is in no part
   module _ (none : All (λ p. is_among p node ≡ false) parts) (here : List Bool) (joined : (n : ℕ) → (is_in here n ≡ true) ↔ AreJoined made n node)
       (nodes : List ℕ) (is : nodes ≡ numbers_in here count) where
-    -- none below it is joined to it, since that one is in a part, and so would be the node
+    -- no node below it is joined to it, since that one is in a part, and so would be the node
     before_not : (m : ℕ) → m < node → is_in here m ≡ false
     before_not m l = not_so (is_in here m) (λ e.
         let w = h.all m l in

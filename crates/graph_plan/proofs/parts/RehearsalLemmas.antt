@@ -1,4 +1,5 @@
--- A line of a rehearsal: the kinds of the nodes stay, and the links that it makes are behind those made before.
+-- A line of a rehearsal: the kinds of the nodes stay, and the links that it makes are after those
+-- made before.
 use Rattle.std.proofs.Common.{◌≡◌, ℕ, zero, suc, ◌+◌, ◌<◌, ◌≤◌, List, [], ◌++◌, length, get_or, drop, refl, sym, ap, ◌∙◌, subst, append_assoc, append-nil}
 use Rattle.std.proofs.lemmas.List.{drop_all}
 use Rattle.std.specs.Prelude.{All}
@@ -45,7 +46,7 @@ rehearsal_kinds waves g after (C.Offer port file) stepped h = ap (λ (x : Graph)
 rehearsal_kinds waves g after (C.Cycles n) stepped h = kinds_past g after n h.1
 rehearsal_kinds waves g after C.Drain stepped h = kinds_past g after h.1.0 h.1.2
 
--- EVERY LINK that lines make, as far as a rehearsal has come
+-- EVERY LINK that lines make, as far as a rehearsal has got
 pub record HasMadeSoFar (waves : List WavIn) (start : Graph) (lines : List Line) (i : ℕ) (g : Graph) (made : List Wire) : Type 0 where
   pub rest : (later : List Wire) → HasMade waves g (drop i lines) later → HasMade waves start lines (made ++ later)
 

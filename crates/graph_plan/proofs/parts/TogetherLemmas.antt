@@ -1,4 +1,5 @@
--- All parts, followed together: what a line needs of them, what it leaves, and that each part is followed alone.
+-- All parts, followed together: what a line needs of them, what it leaves, and that each part is
+-- followed by itself.
 use Rattle.std.proofs.Common.{◌≡◌, inl, inr, ℕ, zero, suc, ◌+◌, ◌<◌, Bool, true, false, cond, List, [], ◌∷◌, ◌++◌, length, get_or, map, drop}
 use Rattle.std.proofs.Common.{None, refl, sym, ap, ◌∙◌, subst, arith}
 use Rattle.std.specs.Prelude.{Result, Ok, Err, IfOk, All}
@@ -149,7 +150,7 @@ steps_from waves g (C.Cycles n) after h none = runs_from g n after h none
 steps_from waves g C.Drain after h none = (h.0, h.1, runs_from g h.0 after h.2 none)
 
 module _ (waves : List WavIn) where
-  -- a part that is followed alone
+  -- a part that is followed by itself
   pub record IsAlone (ls : List Line) (m end : Member) : Type 0 where
     pub nodes_are : end.nodes ≡ m.nodes
     pub follows : Follows waves m.graph (part_lines m.nodes ls) (Ok end.graph)
@@ -185,7 +186,7 @@ module _ (waves : List WavIn) where
   ok_not : (x : Together) (y : ℕ × Which) → ◌≡◌ {A = Result Together (ℕ × Which)} (Ok x) (Err y) → ⊥
   ok_not x y e = cc
 
-  -- EACH PART is followed alone
+  -- EACH PART is followed by itself
   pub each_alone : (ls : List Line) (t end : Together) → FollowTogether waves t ls (Ok end) → AllZip (IsAlone ls) t.members end.members
   each_alone [] t end f = subst (λ (x : Together). AllZip (IsAlone []) t.members x.members) (sym (ok_is end t f)) (same t.members)
   each_alone (l ∷ ls) t end (inl f) = let goes = f.1 in

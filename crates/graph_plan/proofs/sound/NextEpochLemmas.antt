@@ -100,7 +100,7 @@ module _ (count : ℕ) (g : Graph) (sound : IsSoundGraph count g) (n : ℕ) (e :
         (subst (λ (m : ℕ). port.port < m) (port_count_is g.ports g.kinds sound.kinds port.node) f.0) in
         omega (arith, l)
 
-    -- what was told of a sink after the epoch
+    -- what was noted of a sink after the epoch
     told_now : (port : PortId) (rate channels : ℕ) → kind_at plan port.node ≡ Sink → (standing g.nodes port.node).there ≡ true
         → FormIn g.ports port rate channels → (standing after.nodes port.node).told ≡ channels
     told_now port rate channels k there f =

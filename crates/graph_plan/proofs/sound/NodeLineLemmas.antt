@@ -52,7 +52,7 @@ module _ (said : List Standing) (n : ℕ) (t : Standing) (within : n < length sa
     | inr ne ↦ subst (SaysMore (standing said m)) (sym (said_other m ne)) (says_same (standing said m))
   ]
 
-  -- a mark that stays, or comes
+  -- a mark that stays, or is made
   marked_at : (m : ℕ) → (standing said n).marked ≡ t.marked → (standing (set said n t) m).marked ≡ (standing said m).marked
   marked_at m same = elim (cases_eq m n) [
     | inl e ↦ ap (λ (s : Standing). s.marked) (said_here m e) ∙ (sym same ∙ ap (λ (k : ℕ). (standing said k).marked) (sym e))

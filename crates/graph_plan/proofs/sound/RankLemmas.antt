@@ -14,7 +14,7 @@ leads_self : (ls : List Link) (a : ℕ) → leads ls a a ≡ true
 leads_self [] a = eq-eqb a a refl
 leads_self (l ∷ ls) a = or_left (leads ls a a) (leads ls a l.from.node && leads ls l.to.node a) (leads_self ls a)
 
--- a link among others is the first, or one behind it
+-- a link among others is the first, or one after it
 first_or : (l : Link) (ls : List Link) (m : Link) → Contains (l ∷ ls) m → (l ≡ m) ⊎ Contains ls m
 first_or l ls m w = go w.0 w.1 w.2 where
   go : (k : ℕ) → k < length (l ∷ ls) → get_or (l ∷ ls) k m ≡ m → (l ≡ m) ⊎ Contains ls m
@@ -67,7 +67,7 @@ walk_of (l ∷ ls) a b e = elim (or_cases (leads ls a b) (leads ls a l.from.node
       )
 ]
 
--- the rank, where all that the new link leads to is raised above where it comes from
+-- the rank, where all that the new link leads to is raised above where it begins
 raised : (ℕ → ℕ) → List Link → Link → ℕ → ℕ
 raised rank ls l n = rank n + (if leads ls l.to.node n then rank l.from.node + 1 else 0)
 

@@ -1,4 +1,4 @@
--- What is remembered of the epochs so far is kept by one epoch more of the graph that stands.
+-- What is remembered of the epochs so far is kept by one epoch more of the graph now.
 use Rattle.std.proofs.Common.{◌≡◌, inl, inr, ℕ, ◌<◌, ◌≤◌, List, [], ◌∷◌, ◌++◌, length, Bool, true, false}
 use Rattle.std.proofs.Common.{refl, sym, ◌∙◌, subst, arith, length-append}
 use Rattle.std.proofs.lemmas.Option.{slice_get_within}
@@ -19,7 +19,7 @@ use Rattle.graph_plan.proofs.sound.FormLemmas.{one_form}
 
 module _ (plan : Plan) (nodes : List Node) (said after : List Standing) (e : Epoch) (sound : AreSoundNodes nodes)
     (old : Remembers plan nodes said) (next : IsNext plan nodes said after e) where
-  -- a node that the new epoch does not name has not given up, and has the channels that were told
+  -- a node that the new epoch does not name has not given up, and has the channels that were noted
   unnamed : (n : ℕ) → ((c : ℕ) → ¬ Names (with_epoch plan e) (length plan.epochs) n c)
       → ((standing said n).gave_up ≡ false) × ((standing after n).told ≡ (standing said n).told)
   unnamed n none = (quiet (standing said n).gave_up refl, same) where
@@ -36,7 +36,7 @@ module _ (plan : Plan) (nodes : List Node) (said after : List Standing) (e : Epo
       | inr w ↦ absurd (changed (inr w))
     ]
 
-  -- a form of an old epoch stands, if its node was not named since
+  -- a form of an old epoch holds, if its node was not named since
   stands : (i : ℕ) (f : Epoch) (port : PortId) (rate channels : ℕ) → IsEpoch plan i f → HasForm f port rate channels
       → IsQuietFrom (with_epoch plan e) i port.node → Stands nodes port rate channels
   stands i f port rate channels at has none =

@@ -1,4 +1,5 @@
--- Forms that stand where one port of a node is changed, and where a node is released that is not theirs.
+-- Forms that hold where one port of a node is changed, and where a node is released that is not
+-- theirs.
 use Rattle.std.proofs.Common.{◌≡◌, inl, inr, ℕ, List, Option, Some, None, refl, sym, ap, ◌∙◌, subst, arith}
 use Rattle.std.specs.Prelude.{slice_get, IfSome, IsSome}
 use Rattle.std.proofs.lemmas.Option.{same_Some}
@@ -123,7 +124,7 @@ taken_keeps j node t format sound after there may i s later rate channels before
   ],
 )
 
--- a port that is given a format, and every form that stands
+-- a port that is given a format, and every form that holds
 pub record IsGiven (nodes after : List Node) : Type 0 where
   pub sound : AreSoundNodes after
   pub stands : (port : PortId) (rate channels : ℕ) → Stands nodes port rate channels → Stands after port rate channels

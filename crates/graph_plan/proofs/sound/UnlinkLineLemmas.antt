@@ -135,7 +135,7 @@ module _ (gave n : ℕ) (said : List Standing) (within : n < length said) where
     | inr w ↦ ap (λ (s : Standing). s.gave_up) w.1 ∙ h
   ]
 
--- what stands at a node that stays
+-- what is at a node that stays
 module _ (nodes nodes' : List Node) (n : ℕ) (same : slice_get nodes' n ≡ slice_get nodes n) where
   pub formats_stay : (port rate channels : ℕ) → IsFormatted nodes (record { node = n; port = port }) rate channels
       → IsFormatted nodes' (record { node = n; port = port }) rate channels

@@ -1,4 +1,5 @@
--- What a line that makes no epoch leaves: the epochs, what was told of a node, and whether it has given up.
+-- What a line that makes no epoch leaves: the epochs, what was noted of a node, and whether it has
+-- given up.
 use Rattle.std.proofs.Common.{◌≡◌, ◌⊎◌, inl, inr, ℕ, ◌<◌, ◌==◌, ◌&&◌, ◌||◌, Bool, true, false, not, List, length, refl, sym, ap, ◌∙◌, subst, arith}
 use Rattle.std.proofs.Math.ListN.{set, length-set}
 use Rattle.std.specs.Int.{bit_at}

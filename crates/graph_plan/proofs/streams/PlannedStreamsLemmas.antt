@@ -70,7 +70,7 @@ same_port a b h =
     let p : a.port ≡ b.port = eqb-true a.port b.port both.1 in
     ap₂ (λ (x y : ℕ). record { node = x; port = y }) n p
 
--- sums of nothing in cycles in which nothing comes
+-- sums of nothing in cycles in which nothing is received
 nothing_comes : (f : ℕ → List ℤ) (p : ℕ → Bool) (a m : ℕ) → ((k : ℕ) → a ≤ k → k < a + m → f k ≡ []) → flat_map f (filter p (range_with_len a m)) ≡ []
 nothing_comes f p a zero h = refl
 nothing_comes f p a (suc m) h =
@@ -107,7 +107,7 @@ some_port Dummy h = absurd (omega (arith, h))
 
 -- AN INPUT WITHOUT A FORM
 module _ (plan : Plan) (sound : IsSoundPlan plan) (n : ℕ) (there : n < length plan.nodes) where
-  -- where the first input has none, no input has one
+  -- where the first input has no form, no input has one
   module _ (e : Epoch) (is : IsSoundEpoch plan e)
       (none : (rate channels : ℕ) → HasForm e (record { node = n; port = 0 }) rate channels → ⊥) where
     none_at : (port rate channels : ℕ) → port < input_count (kind_at plan n) → HasForm e (record { node = n; port = port }) rate channels → ⊥
@@ -148,7 +148,7 @@ module _ (plan : Plan) (sound : IsSoundPlan plan) (n : ℕ) (there : n < length 
             channels = (get_or e.forms i d).channels;
           }) (same_port (get_or e.forms i d).port (record { node = n; port = port }) t)) (contains_at e.forms i (get_or e.forms i d) (slice_get-get_or e.forms i d m))))))
 
-  -- nothing comes in a cycle in whose epoch the first input has no form
+  -- nothing is received in a cycle in whose epoch the first input has no form
   module _ (k port : ℕ) (input : port < input_count (kind_at plan n))
       (none : (i : ℕ) (e : Epoch) (rate channels : ℕ) → slice_get plan.epochs i ≡ Some e → e.shape.first ≤ k → k < e.shape.first + e.shape.cycles
       → HasForm e (record { node = n; port = 0 }) rate channels → ⊥) (out : Outputs) where

@@ -1,4 +1,5 @@
--- The streams of a plan are those of its script: a node that an epoch names for its channels alone has received nothing since it gave up last.
+-- The streams of a plan are those of its script: a node that an epoch names for its channels only
+-- has received nothing since it gave up last.
 use Rattle.std.proofs.Common.{◌≡◌, ◌⊎◌, inl, inr, ℕ, zero, suc, ◌+◌, ◌<◌, ◌≤◌, ◌==◌, ◌&&◌, ◌||◌, nat_le, Bool, true, false, List, [], ◌∷◌, ◌++◌, length, get_or}
 use Rattle.std.proofs.Common.{refl, sym, ap, ◌∙◌, subst, arith, sum_by}
 use Rattle.std.specs.Prelude.{Contains, slice_get, Some, Ok, if◌then◌else◌}
@@ -243,7 +244,7 @@ module _ (plan : Plan) (cycle n : ℕ) where
     quiet_before : (i : ℕ) → i < length g.epochs → Quiet (g.epochs ++ e ∷ []) i → Quiet g.epochs i
     quiet_before i l q k f channels m at w = q k f channels m (left g.epochs e f k at) w
 
-    -- a node that the epoch does not name has the channels that were told
+    -- a node that the epoch does not name has the channels that were noted
     told_same : ((channels : ℕ) → Contains e.fresh (record { node = n; channels = channels }) → ⊥)
         → (standing after.nodes n).told ≡ (standing g.nodes n).told
     told_same none = elim (cases_eq (standing after.nodes n).told (standing g.nodes n).told) [

@@ -1,4 +1,4 @@
--- What stands before and after a line in the whole and in all parts.
+-- The state before and after a line in the whole and in all parts.
 -- Source: this project's own.
 use Rattle.std.specs.Prelude.{◌≡◌, ℕ, List, Result, Ok, Err, All, length}
 use Rattle.pw_graph.specs.declared.kind.Kind.{Kind}

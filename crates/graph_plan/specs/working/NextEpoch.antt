@@ -1,4 +1,4 @@
--- An epoch of the graph that stands, and what is said of the nodes after it, for later epochs.
+-- An epoch of the graph now, and what is said of the nodes after it, for later epochs.
 -- Source: this project's own.
 use Rattle.std.specs.Prelude.{◌≡◌, ◌⊎◌, ℕ, ◌<◌, ◌++◌, [], ◌∷◌, true, false, List, Contains}
 use Rattle.pw_graph.specs.declared.ids.PortId.{PortId}
@@ -20,7 +20,7 @@ abbrev pub Changes : List Standing → List Standing → ℕ → Type 0
 Changes said after n = ((standing said n).gave_up ≡ true)
     ⊎ (¬ ((standing after n).told ≡ (standing said n).told))
 
--- its forms are those that stand; it names just the nodes that change, with their channels
+-- its forms are those that hold; it names just the nodes that change, with their channels
 pub record IsNext (plan : Plan) (nodes : List Node) (said after : List Standing) (e : Epoch)
     : Type 0 where
   pub forms : (port : PortId) (rate channels : ℕ) → HasForm e port rate channels

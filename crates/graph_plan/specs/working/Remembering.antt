@@ -1,4 +1,4 @@
--- What a graph remembers of the epochs so far: forms that stand, what was told last, and sinks.
+-- What a graph remembers of the epochs so far: forms that hold, what was noted last, and sinks.
 -- Source: this project's own.
 use Rattle.std.specs.Prelude.{◌≡◌, ℕ, ◌<◌, true, false, List, length, IsSome, slice_index_or}
 use Rattle.pw_graph.specs.declared.ids.PortId.{PortId}
@@ -30,18 +30,18 @@ pub record HasSomeFormat (nodes : List Node) (n : ℕ) : Type 0 where
   pub there : IsPort nodes (record { node = n; port = port })
   pub has : AtPort nodes (record { node = n; port = port }) (λ node s. IsSome s.format)
 
--- a form of an epoch still stands, and its node has a format
+-- a form of an epoch still holds, and its node has a format
 pub record Stands (nodes : List Node) (port : PortId) (rate channels : ℕ) : Type 0 where
   pub form : FormIn nodes port rate channels
   pub some : HasSomeFormat nodes port.node
 
--- the last epoch that names a node has what was told of it last
+-- the last epoch that names a node has what was noted of it last
 pub record IsLastNaming (plan : Plan) (node told : ℕ) : Type 0 where
   pub epoch : ℕ
   pub names : Names plan epoch node told
   pub last : IsQuietFrom plan epoch node
 
--- REMEMBERS: forms stand until their node is named or gives up; the laws on forms are kept
+-- REMEMBERS: forms hold until their node is named or gives up; the laws on forms are kept
 pub record Remembers (plan : Plan) (nodes : List Node) (said : List Standing) : Type 0 where
   pub kept : (i : ℕ) (e : Epoch) (port : PortId) (rate channels : ℕ) → IsEpoch plan i e
       → HasForm e port rate channels → IsQuietFrom plan i port.node

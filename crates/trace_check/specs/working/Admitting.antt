@@ -1,4 +1,4 @@
--- What the checker keeps of an epoch and of the cycle that it is in, and how it tells which event
+-- What the checker keeps of an epoch and of the cycle that it is in, and how it finds which event
 -- may come next.
 -- Source: this project's.
 use Rattle.std.specs.Prelude.{◌≡◌, ℕ, ◌<◌, ◌↔◌, true, false, List, length, slice_index, Contains, IsTrue, IsBitSet}

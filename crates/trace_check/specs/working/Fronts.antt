@@ -29,13 +29,13 @@ abbrev pub front_length : Front → ℕ
 front_length (Whole n) = n
 front_length (Part n) = n
 
--- the first events are the cycles, whole; or they stop, whatever cycles come later
+-- the first events are the cycles, whole; or they stop, whatever cycles follow
 abbrev pub IsFrontOf : List (Shape × ℕ) → List Event → Front → Type 0
 IsFrontOf cycles events (Whole n) = AreJoined cycles (take n events)
 IsFrontOf cycles events (Part n) = (later : List (Shape × ℕ)) → AreSound later
     → StopAfter (cycles ++ later) events n
 
--- behind a Begin: the events before the n-th may follow, and that is the End of the whole cycle; or
+-- after a Begin: the events before the n-th may follow, and that is the End of the whole cycle; or
 -- they stop
 abbrev pub IsFrontInside : Shape → ℕ → List Event → Front → Type 0
 IsFrontInside shape cycle events (Whole n) = (n < length events)

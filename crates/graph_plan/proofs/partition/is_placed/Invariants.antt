@@ -1,4 +1,4 @@
--- None of the parts so far has the node.
+-- No part so far has the node.
 use Rattle.std.proofs.Common.{◌≡◌, false, take}
 use Rattle.std.specs.Prelude.{All}
 use Rattle.graph_plan.specs.Parts.{is_among}

@@ -5,7 +5,7 @@ use Rattle.graph_lines.specs.Searching.{IsWithin}
 use Rattle.graph_plan.proofs.parts.RehearsalLemmas.{HasMadeSoFar}
 use Rattle.graph_plan.proofs.partition.links_made.Given as goal
 
--- whatever links the lines that are left make, all lines make them behind those so far
+-- whatever links the lines that are left make, all lines make them after those so far
 abbrev pub invariant-loop-line : goal.invariant-loop-line
 invariant-loop-line l = record {
   ready : IsReady l.graph;

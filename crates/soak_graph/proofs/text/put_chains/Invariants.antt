@@ -1,4 +1,4 @@
--- The chains so far stand in the text.
+-- The chains so far are in the text.
 use Rattle.std.proofs.Common.{◌≡◌, ◌++◌}
 use Rattle.std.specs.Prelude.{flat_map}
 use Rattle.std.specs.List.{range_with_len}

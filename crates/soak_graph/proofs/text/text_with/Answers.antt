@@ -1,4 +1,4 @@
--- The parts of the text, one behind the other.
+-- The parts of the text, one after the other.
 use Rattle.std.proofs.Common.{◌≡◌, ℕ, ◌++◌, sym, ap, ◌∙◌, codes, List}
 use Rattle.soak_graph.specs.declared.drawing.Chain.{Chain}
 use Rattle.soak_graph.specs.working.Drawing.{chain_in}

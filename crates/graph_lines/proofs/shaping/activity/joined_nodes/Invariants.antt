@@ -1,4 +1,4 @@
--- All that are in are joined to the node; when no more come, each link is closed.
+-- All that are in are joined to the node; when no more are added, each link is closed.
 use Rattle.std.proofs.Common.{◌+◌, not, cond}
 use Rattle.std.specs.List.{count_by}
 use Rattle.graph_lines.proofs.ActivityLemmas.{IsSearched}

@@ -1,4 +1,4 @@
--- A pass, as far as it has come.
+-- A pass, as far as it has got.
 use Rattle.graph_lines.proofs.ActivityLemmas.{IsSpread}
 use Rattle.graph_lines.proofs.shaping.activity.spread.Given as goal
 
