@@ -81,7 +81,7 @@ module _ (p : BoardLayout) where
   read_falls v l rs ws inside mine same_reads same_words less =
       let m = read_moves v l rs ws 1 0 inside mine same_reads same_words (omega arith) in omega arith
 
-  -- blocks of other pools stand elsewhere
+  -- blocks of other pools are elsewhere
   pools_apart : (q r b c : ℕ) → q < length (pools_of p.shape) → b < (pool_at p q).blocks → r ≢ q → c < (pool_at p r).blocks → block_at p r c ≢ block_at p q b
   pools_apart q r b c inside low other lt e = dite (dec_le (suc r) q)
       (λ z. let a = take_less (λ (k : PoolShape). k.blocks) (pools_of p.shape) r q (pool_at p r) (omega arith) (pool_there p r (omega arith)) in omega arith)

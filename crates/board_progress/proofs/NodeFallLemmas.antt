@@ -26,7 +26,7 @@ use Rattle.board_progress.specs.BuffersLeft.{steps_left}
 use Rattle.board_progress.proofs.OrderLemmas.{times_all}
 use Rattle.board_progress.proofs.FallLemmas.{settled_falls}
 
--- a sum of which one term falls and none rises
+-- a sum of which one term falls and no term rises
 total_most : (f g : ℕ → ℕ) (k : ℕ) → ((i : ℕ) → g i ≤ f i) → total g k ≤ total f k
 total_most f g zero below = omega arith
 total_most f g (suc k) below = let a = total_most f g k below in let b = below k in omega arith

@@ -18,7 +18,7 @@ use Rattle.board_rule.specs.Sums.{times}
 use Rattle.board_rule.specs.Layout.{BoardLayout, layout_of, index_in, IsSound, nodes}
 use Rattle.board_progress.specs.working.Order.{IsOrdered}
 
--- what holds of all numbers of a list holds of one that stands there
+-- what holds of all numbers of a list holds of one that is there
 pub times_all : (P : ℕ → Type 0) (n : ℕ) (xs : List ℕ) → All P xs → 0 < times n xs → P n
 times_all P n [] all h = absurd (omega arith)
 times_all P n (x ∷ xs) all h = dite (ℕ_discrete x n)

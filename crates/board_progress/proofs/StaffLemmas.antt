@@ -29,7 +29,7 @@ within [] i a e = absurd (some-ne-none a (sym e))
 within (x ∷ xs) zero a e = omega arith
 within (x ∷ xs) (suc i) a e = let h = within xs i a e in omega arith
 
--- some number below k has it, or none has
+-- some number below k has it, or no number has
 pub searched : (P : ℕ → Type 0) → ((n : ℕ) → P n ⊎ (P n → ⊥)) → (k : ℕ) → ((n : ℕ) × (n < k) × P n) ⊎ ((n : ℕ) → n < k → P n → ⊥)
 searched P decide zero = inr (λ n h. absurd (omega arith))
 searched P decide (suc k) = ⊎_elim (λ here. inl (k, (let z : k < suc k = omega arith in z), here))

@@ -108,7 +108,7 @@ module _ (p : BoardLayout) (s : State (Option ℕ) View) (h : Holds p s) (staff 
         (has_node p s h staff more n o now, ap (λ (y : NodeView). y.phase) o.same ∙ idle n inside follows)
         (status ∙ ap triggered_word (sym same)) refl)
 
-    -- THE LEAST: of the followers that are idle in the driver's cycle one is blocked by none
+    -- THE LEAST: of the followers that are idle in the driver's cycle one is blocked by no follower
     least : (k n : ℕ) → order.rank n < k → n < nodes p → n ≢ p.driver → (g.nodes n).next ≡ c → SomeAdvances p s
     least zero n low inside follows now = absurd (omega arith)
     least (suc k) n low inside follows now = ⊎_elim

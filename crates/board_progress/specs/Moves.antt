@@ -4,7 +4,7 @@ use Rattle.std.specs.Prelude.{ℕ, Option, []}
 use Rattle.atomic_table.specs.Table.{State, keeps, stepped}
 use Rattle.board_rule.specs.declared.view.View.{View}
 
--- the place of the word, the number that stands there after the step, and the view after it
+-- the place of the word, the number that is there after the step, and the view after it
 pub record Move : Type 0 where
   pub place : ℕ
   pub word : ℕ

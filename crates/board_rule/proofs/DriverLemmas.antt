@@ -181,7 +181,7 @@ module _ (p : BoardLayout) where
   kicked_quiet j n i o false = kicked_quiet_by j i o (eqb i n)
 
   module _ {S : Type 0} where
-    -- what the driver's view tells of the whole
+    -- what the driver's view says of the whole
     pub lead_is : (s : State S View) (r : Holds p s) (id : ℕ) (v : View) → get_elem? s.views id ≡ some v → v.number ≡ p.seats
         → v.lead ≡ r.whole.lead
     lead_is s r id v at number = ((r.seated.knows id v at).is_driver number).0

@@ -1,4 +1,5 @@
--- Where the first element that passes a test stands, and how many pass, in a list that grows at its end.
+-- Where the first element that passes a test is, and how many pass, in a list that grows at its
+-- end.
 use Rattle.std.proofs.Common.{◌≡◌, ℕ, zero, suc, ◌+◌, ◌<◌, ◌≤◌, ◌⊎◌, inl, inr, ⊎_elim, Bool, true, false, not, cond, List, []}
 use Rattle.std.proofs.Common.{◌∷◌, ◌++◌, map, length, refl, sym, ap, ◌∙◌, subst, arith, eq-eqb, ne_eqb, Some}
 use mathlib.Core.Logic.{dite}
@@ -25,7 +26,7 @@ module _ {X : Type 0} (f : X → Bool) where
       let e : count_by f (x ∷ xs) ≡ cond (f x) 1 0 + count_by f xs = sum_by-cons (λ x. cond (f x) 1 0) x xs in
       (λ h. b.0 (subst (λ k. 0 < k) e h), λ h. b.1 (sym e ∙ h))
 
-  -- some pass: the first stands within; none pass: it stands at the end
+  -- some pass: the first is within; none pass: it is at the end
   pub first_within : (xs : List X) → 0 < count_by f xs → position_or_len f xs < length xs
   first_within xs h = (first_cases xs).0 h
 
@@ -49,7 +50,7 @@ module _ {X : Type 0} (f : X → Bool) where
       (λ o. let a = position_or_len_push f xs y ∙ ap (λ b. cond b (length xs + cond (f y) 0 1) (position_or_len f xs))
       (ne_eqb (position_or_len f xs) (length xs) o) in omega arith)
 
--- the elements are changed to such as a test does not tell from them
+-- the elements are changed to such as a test does not distinguish from them
 module _ {X : Type 0} (f : X → Bool) (h : X → X) (same : (x : X) → f (h x) ≡ f x) where
   pub count_mapped : (xs : List X) → count_by f (map h xs) ≡ count_by f xs
   count_mapped [] = refl

@@ -1,4 +1,5 @@
--- Where the words of the buffer rule stand: apart from one another, and from those of the other two rules.
+-- Where the words of the buffer rule are: apart from one another, and from those of the other two
+-- rules.
 use Rattle.std.proofs.Common.{◌≡◌, ◌≢◌, ℕ, zero, suc, ◌+◌, ◌-◌, ◌*◌, ◌<◌, ◌≤◌, Bool, true, false, cond, List, [], ◌∷◌, length, take}
 use Rattle.std.proofs.Common.{get_or, ◌⊎◌, inl, inr, refl, sym, ap, ◌∙◌, subst, arith}
 use Rattle.std.specs.Prelude.{Some, sum_by, slice_get, unwrap_or, option_map}

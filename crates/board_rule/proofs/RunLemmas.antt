@@ -11,7 +11,7 @@ use Rattle.pw_graph.specs.Words.{status_word_of, awake_word, finished_word, trig
 use Rattle.board_rule.specs.activation.ActivationRule.{Progress, NodeOk}
 use Rattle.board_rule.proofs.SumLemmas.{total_same, total_change, total_at, times_here, times_else}
 
--- the progress differs at m alone
+-- the progress differs only at m
 pub record Elsewhere (m : ℕ) (s t : Progress) : Type 0 where
   pub rest : (i : ℕ) → i ≢ m → t.rest i ≡ s.rest i
   pub owing : (i : ℕ) → i ≢ m → t.owing i ≡ s.owing i

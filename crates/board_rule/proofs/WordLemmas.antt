@@ -1,4 +1,4 @@
--- Where the words of a block stand, by the row of its pool.
+-- Where the words of a block are, by the row of its pool.
 use Rattle.std.proofs.Common.{◌≡◌, ℕ, ◌+◌, ◌*◌, ◌^◌, ◌<◌, ◌≤◌, List, [], ◌∷◌, take, length, ap, ◌∙◌, arith}
 use Rattle.std.specs.Prelude.{unwrap_or, option_map, sum_by}
 use Rattle.std.proofs.lemmas.Option.{slice_get-get_or}

@@ -21,9 +21,9 @@ use Rattle.board_rule.specs.buffers.KnownEnds.{KnowsEnds, AreRead, AreStill}
 
 module _ (p : BoardLayout) where
   -- what the view at the index j among all views says of the whole: no two views of seats have the
-  -- same number. A view with a greater number is kept of a board that is closed, and then no seat is
-  -- split off any more. `owners`, `reads`, `looks`: whose each node, link and block is; of no block
-  -- more is read than it has; a check looks at nodes
+  -- same number. A view with a greater number is kept of a board that is closed, and then no seat
+  -- is split off any more. `owners`, `reads`, `looks`: whose each node, link and block is; of no
+  -- block more is read than it has; a check looks at nodes
   pub record Knows (g : Whole) (j : ℕ) (v : View) : Type 0 where
     pub kept : p.seats < v.number → p.seats < g.split
     pub here : v.number ≤ p.seats → g.seat_at v.number ≡ j

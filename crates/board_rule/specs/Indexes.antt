@@ -7,7 +7,7 @@ use Rattle.pw_graph.specs.declared.shape.Shape.{Shape}
 use Rattle.pw_graph.specs.Dependencies.{nodes_of}
 use Rattle.pw_graph.specs.Layout.{start_words}
 
--- the index of a node; the number of nodes, where it is none
+-- the index of a node; the number of nodes, where there is no such node
 abbrev pub index_in : Shape → ℕ → ℕ
 index_in shape n = position_or_len (λ k. k == n) (nodes_of shape)
 

@@ -18,7 +18,7 @@ pub record Known : Type 0 where
   pub table : TableId
   pub knows : View
 
--- a loop's keeps its own nodes, ends of links and blocks alone
+-- a loop's keeps only its own nodes, ends of links and blocks
 pub record IsLoopSeat (v : View) (nodes : List NodeProgress) (writes : List WriteView)
     (reads : List ReadView)
     (blocks : List BlockView) (woke : ℕ) : Type 0 where
@@ -28,7 +28,7 @@ pub record IsLoopSeat (v : View) (nodes : List NodeProgress) (writes : List Writ
   pub blocks_are : own v.number v.owners.blocks v.blocks ≡ blocks
   pub woke_is : woke_of v.trail.told ≡ woke
 
--- the driver's its own ends of links alone
+-- the driver's keeps only its own ends of links
 pub record IsDriverSeat (v : View) (lead : DriverProgress) (reads : List ReadView)
     (woke : ℕ) : Type 0 where
   pub lead_is : lead_progress_of v.lead ≡ lead

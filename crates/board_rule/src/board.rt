@@ -55,7 +55,7 @@ impl Board {
         self.targets_at(self.index_of(node))
     }
 
-    /// A word, for tests and pictures. It needs no seat and tells nothing.
+    /// A word, for tests and pictures. It needs no seat, and no seat knows more by it.
     pub fn peek(&self, word: usize) -> u64
         requires { word < word_count self.now.board_shape.shape }
     {
@@ -125,7 +125,7 @@ impl Board {
 }
 
 impl Board {
-    /// Where the words of the activation record at an index stand.
+    /// Where the words of the activation record at an index are.
     pub(crate) fn pending_word(&self, at: usize) -> usize
         requires { at < nodes (layout_of self.now.board_shape) }
         ensures is { result ≡ pending_place self.now.board_shape.shape at }
@@ -144,7 +144,7 @@ impl Board {
 }
 
 impl Board {
-    /// Where the ticket word stands.
+    /// Where the ticket word is.
     pub(crate) fn ticket_word(&self) -> usize
         ensures is { result ≡ 0 }
         ensures there { result < self.now.table.shared.table_id.words }
@@ -159,7 +159,7 @@ impl Board {
         self.rows.areas
     }
 
-    /// Where the late set of a cycle stands, counted from the first.
+    /// Where the late set of a cycle is, counted from the first.
     pub(crate) fn late_word(&self, past: usize) -> usize
         requires { past < self.now.board_shape.shape.cycles }
         ensures is { result ≡ late_place self.now.board_shape.shape past }
@@ -183,7 +183,7 @@ impl Board {
         self.first_late() + self.board_shape.shape.cycles as usize
     }
 
-    /// Where the event of a ticket stands.
+    /// Where the event of a ticket is.
     pub(crate) fn event_word(&self, ticket: u64) -> usize
         requires { ticket < event_count self.now.board_shape.shape }
         ensures is { result ≡ event_place self.now.board_shape.shape ticket }
@@ -207,7 +207,7 @@ impl Board {
         cycle as u32
     }
 
-    /// How many cycles of the epoch come before one.
+    /// How many cycles of the epoch precede one.
     pub(crate) fn past(&self, cycle: u64) -> u32
         requires { (first (layout_of self.now.board_shape) ≤ cycle)
             × (cycle ≤ last (layout_of self.now.board_shape)) }

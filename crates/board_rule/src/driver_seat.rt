@@ -21,7 +21,7 @@ use pw_graph::io_id_of;
 use std::marker::{Brand, Model};
 
 /// The right of the driver's thread to step on a board: it begins, checks and ends each cycle and
-/// runs the driver's node. It keeps the ends of the links into that node alone, each at its slot.
+/// runs the driver's node. It keeps only the ends of the links into that node, each at its slot.
 #[derive(Drop)]
 pub struct DriverSeat {
     pub(crate) token: BoardToken,

@@ -2,7 +2,7 @@
 use std::marker::Brand;
 
 /// Names the samples that are expected, by cycle of the epoch, pool and index in the quantum. It
-/// has no call: contracts alone see it. Whoever makes a board names it at the call.
+/// has no call: only contracts see it. Whoever makes a board names it at the call.
 pub trait Expect {
     ghost use Rattle.board_rule.specs.View.{Samples};
 

@@ -1,4 +1,4 @@
-//! Where the words of links and pools stand, and what their rows say. Links and pools are given by
+//! Where the words of links and pools are, and what their rows say. Links and pools are given by
 //! number, nodes by index.
 ghost use Rattle.board_rule.specs.OnBoard.{layout};
 ghost use Rattle.std.specs.Prelude.{◌≡◌, ◌<◌, length};
@@ -53,7 +53,7 @@ impl Board {
 }
 
 impl Board {
-    /// Where the first sample word of a block of a pool stands: the others follow. Takes no memory.
+    /// Where the first sample word of a block of a pool is: the others follow. Takes no memory.
     #[inline]
     pub fn first_sample(&self, pool: u32, id: u32) -> usize
         requires inside { pool < length (pools_of self.now.board_shape.shape) }
@@ -89,7 +89,7 @@ impl Board {
         self.rows.links[link as usize].pool
     }
 
-    /// Where the area of a link stands that has the block of a stamp.
+    /// Where the area of a link is that has the block of a stamp.
     pub(crate) fn area_word(&self, link: u32, stamp: u64) -> usize
         requires { link < length self.now.board_shape.shape.links }
         ensures is { result ≡ io_place self.now.board_shape.shape link
@@ -129,7 +129,7 @@ impl Board {
         self.rows.pools[pool].readers
     }
 
-    /// Where the readers word of a block stands.
+    /// Where the readers word of a block is.
     pub(crate) fn readers_word(&self, pool: usize, id: u32) -> usize
         requires inside { pool < length (pools_of self.now.board_shape.shape) }
         requires block { id < (pool_at (layout self.now) pool).blocks }
@@ -140,7 +140,7 @@ impl Board {
         row.base + id as usize * (1 + row.words)
     }
 
-    /// Where a sample word of a block stands, whose first sample word stands at a known index.
+    /// Where a sample word of a block is, whose first sample word is at a known index.
     pub(crate) fn sample_word_at(&self, pool: usize, id: u32, place: u32, first: usize) -> usize
         requires inside { pool < length (pools_of self.now.board_shape.shape) }
         requires block { id < (pool_at (layout self.now) pool).blocks }
@@ -165,7 +165,7 @@ impl Board {
         first + place as usize
     }
 
-    /// Where the readers word of a block stands, of the pool that a link reads.
+    /// Where the readers word of a block is, of the pool that a link reads.
     pub(crate) fn link_readers_word(&self, link: u32, id: u32) -> usize
         requires inside { link < length self.now.board_shape.shape.links }
         requires block { let p = layout self.now in id < (pool_at p (pool_of p link)).blocks }

@@ -10,7 +10,7 @@ use pw_graph::{AreaStatus, NO_BLOCK, PoolShape, PortId, Shape, ShapeLink, io_wor
 use pw_lists::{Items, Memory};
 use std::alloc::Global;
 
-// Two words behind the others.
+// Two words after the others.
 fn push_two(words: &mut Items<u64>, one: u64, two: u64) -> Result<(), Memory>
     ensures { OnOk result (words.new ≡ words.old ++ one ∷ two ∷ []) }
 {
@@ -18,7 +18,7 @@ fn push_two(words: &mut Items<u64>, one: u64, two: u64) -> Result<(), Memory>
     words.push(two)
 }
 
-// The io areas of a link, behind the words. An area asks for data and names no block, but that of a
+// The io areas of a link, after the words. An area asks for data and names no block, but that of a
 // delayed link that is read in the first cycle has data and names block 0.
 fn push_area(words: &mut Items<u64>, link: &ShapeLink, first: u32) -> Result<(), Memory>
     ensures { OnOk result (words.new ≡ words.old ++ io_start first link.now) }

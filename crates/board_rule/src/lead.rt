@@ -1,4 +1,4 @@
-//! What the driver's seat keeps to step by. Its phase stands in contracts alone.
+//! What the driver's seat keeps to step by. Its phase is in contracts only.
 ghost use Rattle.std.specs.Prelude.{◌≡◌, ◌<◌, ◌≤◌, ◌^◌, cond};
 ghost use Rattle.pw_graph.specs.Limits.{dummy_node};
 ghost use Rattle.pw_graph.specs.EventWords.{event_node};
@@ -96,7 +96,7 @@ pub(crate) fn lead_store(lead: &mut DriverProgress)
     }
 }
 
-/// The event that is due. The late set of a Tick stands in a word of its own.
+/// The event that is due. The late set of a Tick is in a word of its own.
 pub(crate) fn lead_event(due: Due, cycle: u32, node: u32) -> Event
     requires { node ≤ dummy_node }
     ensures is { result ≡ due_event due cycle node }

@@ -17,8 +17,8 @@ use crate::view::{BlockView, ReadView, WriteView};
 use pw_graph::io_id_of;
 use std::marker::{Brand, Model};
 
-/// The right of one loop to step on a board, for the followers that are its own. It keeps these,
-/// the ends of their links and the blocks that they fill alone, each at its slot.
+/// The right of one loop to step on a board, for the followers that are its own. It keeps only
+/// these, the ends of their links and the blocks that they fill, each at its slot.
 #[derive(Drop)]
 pub struct LoopSeat {
     pub(crate) token: BoardToken,

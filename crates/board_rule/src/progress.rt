@@ -1,5 +1,5 @@
-//! What the seat of a loop keeps of a follower to step by. The phases themselves stand in contracts
-//! alone.
+//! What the seat of a loop keeps of a follower to step by. The phases themselves are in contracts
+//! only.
 ghost use Rattle.board_rule.specs.OnBoard.{layout};
 ghost use Rattle.pw_graph.specs.Limits.{dummy_node};
 ghost use Rattle.std.specs.Prelude.{◌≡◌, ◌<◌, ◌≤◌, ◌^◌, true, cond, eqb};

@@ -12,7 +12,7 @@ use pw_lists::Memory;
 use std::alloc::{AllocError, Global};
 
 /// A link: the indexes of its writer and of its reader, the number of the pool that it reads, where
-/// its first area stands, and whether it has a second; where the words of its pool begin, and how
+/// its first area is, and whether it has a second; where the words of its pool begin, and how
 /// many each block has with its readers word.
 #[derive(Clone, Copy, Drop)]
 pub struct LinkRow {
@@ -27,7 +27,7 @@ pub struct LinkRow {
 
 /// A pool: the node that fills it, by index and by number; how many blocks it has, how many words
 /// each has, and how many links read it; where a view has its first block, and where its words
-/// stand.
+/// are.
 #[derive(Clone, Copy, Drop)]
 pub struct PoolRow {
     pub(crate) filler: usize,
@@ -159,7 +159,7 @@ fn row_at(shape: &Shape, rows: &[PoolRow], pool: usize) -> PoolRow
     rows[pool]
 }
 
-// The row of a link whose area stands at an index.
+// The row of a link whose area is at an index.
 fn link_row(
     shape: &Shape,
     pools: &[PoolShape],
@@ -219,7 +219,7 @@ fn links_of(
     Ok(rows)
 }
 
-// The row of a pool whose first block and whose words stand at indexes.
+// The row of a pool whose first block and whose words are at indexes.
 fn pool_row(shape: &Shape, pool: &PoolShape, first: usize, base: usize) -> PoolRow
     ensures { IsPoolRow shape.now pool.now first base result }
 {
@@ -234,8 +234,8 @@ fn pool_row(shape: &Shape, pool: &PoolShape, first: usize, base: usize) -> PoolR
     }
 }
 
-// The rows of all pools, whose words stand from `base` on. All words of the shape are fewer than
-// `words`.
+// The rows of all pools, whose words are stored from `base` on. All words of the shape are fewer
+// than `words`.
 fn pools_rows(
     alloc: Global,
     shape: &Shape,

@@ -16,7 +16,7 @@ ghost use Rattle.board_rule.specs.buffers.ReaderSteps.{LowersReaders, readers_lo
 
 use crate::board::Board;
 
-/// A seat at a board. `is_driver` is true for the driver's, whose node is the driver's alone;
+/// A seat at a board. `is_driver` is true for the driver's, whose node no other seat has;
 /// `table` is the board that the seat belongs to, and `knows` what it knows, its number among other
 /// things. Each step is one sequentially consistent operation on one word; it takes no memory, does
 /// not wait and does not fail. Nodes are given by their numbers.
@@ -117,7 +117,7 @@ pub trait BoardSeat {
 
     /// Loads a sample word of the block that the reader has in its turn and has not lowered: four
     /// of the samples that are expected. The words before it are loaded already. `first` is where
-    /// the first sample word of the block stands (`Board::first_sample`). The seat's table of
+    /// the first sample word of the block is (`Board::first_sample`). The seat's table of
     /// samples has one quantum of 16-bit samples for each cycle and pool.
     fn load_sample_at(&mut self, board: &Board, link: u32, id: u32, place: u32, first: usize) -> u64
         requires table { IsOn board.now (table self.old) }

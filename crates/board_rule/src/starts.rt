@@ -27,7 +27,7 @@ pub struct Starts {
     pub(crate) blocks: Items<BlockView>,
 }
 
-// The blocks of a pool at the start, behind those of the pools before it.
+// The blocks of a pool at the start, after those of the pools before it.
 fn push_blocks(blocks: &mut Items<BlockView>, shape: &Shape, pool: &PoolShape) -> Result<(), Memory>
     ensures { OnOk result (blocks.new ≡ blocks.old ++ blocks_at_first shape.now pool.now) }
 {

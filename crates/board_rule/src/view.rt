@@ -1,9 +1,9 @@
-//! What a seat knows of its board. The views themselves stand in contracts alone: no value of
+//! What a seat knows of its board. The views themselves are in contracts only: no value of
 //! `View` is made.
 use pw_graph::Event;
 use std::collections::LinkedList;
 
-/// Where a follower stands in its cycle.
+/// The phase of a follower in its cycle.
 #[derive(Clone, Copy, Drop)]
 pub enum Phase {
     /// It waits to be triggered.
@@ -31,7 +31,7 @@ pub struct NodeView {
     pub finish: u64,
 }
 
-/// Where the driver's seat stands in its cycle.
+/// The phase of the driver's seat in its cycle.
 #[derive(Clone, Copy, Drop)]
 pub enum DriverPhase {
     /// The cycle is not yet begun.
@@ -131,14 +131,14 @@ pub struct Owners {
 }
 
 /// What one seat knows. A loop's seat has a number below the number of loops' seats, and the
-/// driver's seat has that number itself; which fields count is told by it.
+/// driver's seat has that number itself; which fields count is decided by it.
 pub struct View {
     pub number: usize,
     /// The driver's: how many loops' seats are split off.
     pub split: usize,
     /// The driver's.
     pub lead: DriverView,
-    /// A loop's: by index in the shape. Those of the seat alone count.
+    /// A loop's: by index in the shape. Only those of the seat count.
     pub nodes: LinkedList<NodeView>,
     /// By number of the link. Those that the seat writes or reads count.
     pub writes: LinkedList<WriteView>,

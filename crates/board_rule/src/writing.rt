@@ -96,7 +96,7 @@ impl LoopSeat {
     }
 
     /// Stores the next sample word of a block, four samples of this cycle. `first` is where the
-    /// first sample word of the block stands (`Board::first_sample`).
+    /// first sample word of the block is (`Board::first_sample`).
     #[inline]
     pub fn store_sample_at(
         &mut self,
@@ -167,7 +167,7 @@ impl LoopSeat {
         0
     }
 
-    /// The number of the block that has been out longest; 0 where none is out.
+    /// The number of the block that has been out longest; 0 where no block is out.
     pub fn oldest_out(&self, board: &Board, pool: u32) -> u32
         requires pool { HasPool (layout board.now) self.now.knows pool }
         ensures inside { result < (pool_at (layout board.now) pool).blocks }

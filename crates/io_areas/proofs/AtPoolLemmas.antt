@@ -1,4 +1,5 @@
--- What the calls use of a pool: its words by its quantum, and that the block a seat is asked for is one alone.
+-- What the calls use of a pool: its words by its quantum, and that the block a seat is asked for is
+-- just one.
 use Rattle.std.proofs.Common.{◌≡◌, ℕ, ◌+◌, ◌*◌, ◌/◌, ◌<◌, ◌≤◌, ⊎_elim, length, get_or, sym, ap, ◌∙◌, subst}
 use Rattle.std.proofs.Common.{arith}
 use Rattle.std.proofs.Math.Nat.{le_antisymm}

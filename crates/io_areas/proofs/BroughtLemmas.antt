@@ -18,7 +18,7 @@ use Rattle.io_areas.specs.Reading.{IsHolding, IsClamped, stamp_brought, brought}
 use Rattle.io_areas.specs.Quanta.{quantum_of}
 use Rattle.io_areas.proofs.SampleWordsLemmas.{IsShort, IsReadTo}
 
--- the list where the test holds, else zeros: told by its elements
+-- the list where the test holds, else zeros: given by its elements
 told_by : (b : Bool) (xs ys : List ℤ) (n : ℕ) → (b ≡ true → length xs ≡ n) → length ys ≡ n
     → ((j : ℕ) → j < length ys → get_or ys j (pos 0) ≡ get_or (cond b xs []) j (pos 0)) → ys ≡ cond b xs (replicate n (pos 0))
 told_by true xs ys n long e same = ext_get_or (pos 0) ys xs (e ∙ sym (long refl)) same

@@ -84,7 +84,7 @@ module _ (b : Bool) (p : BoardLayout) (v : View) (l : ℕ) (h : MayReadInput b p
           ap (λ (z : ReadView). z.lowered) is ∙ h.even.lowered ∙ sym back,
         )
 
-    -- what it reads is told by the view before
+    -- what it reads is decided by the view before
     pub brought_now : brought b p taken_now l ≡ brought b p v l
     brought_now = ap (λ c. brought_in p v.expect l c) same
 

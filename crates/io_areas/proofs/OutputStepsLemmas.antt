@@ -17,7 +17,7 @@ use Rattle.io_areas.specs.Writing.{number_given}
 use Rattle.io_areas.specs.working.OutputSteps.{AreMade, IsLoadedNow, IsPublishedNow}
 use Rattle.io_areas.proofs.KeptLemmas.{IsKept, has_again, runs_again}
 
--- an element does not stand before itself
+-- an element is not before itself
 pub not_before : (xs : List ℕ) (k d : ℕ) → AllPairs (λ a b. a ≢ b) xs → k < length xs → Contains (take k xs) (get_or xs k d) → ⊥
 not_before xs k d once h c = let l : ℕ = get_or xs k d in let i = c.0 in let long = length-take k xs in let low = c.1 in
     let before : i < k = omega arith in

@@ -42,7 +42,7 @@ fn words_of(board: &Board, link: u32) -> u32
     board.block_words(pool)
 }
 
-// Where the first sample word of a block of the link's pool stands.
+// Where the first sample word of a block of the link's pool is.
 fn first_of(board: &Board, link: u32, id: u32) -> usize
     requires inside { link < length (layout board.now).shape.links }
     requires block { let p = layout board.now in id < (pool_at p (pool_of p link)).blocks }

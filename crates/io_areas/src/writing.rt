@@ -11,7 +11,7 @@ use crate::sample_words::pack;
 use board_rule::{Board, BoardSeat, LoopSeat};
 use pw_graph::io_id_of;
 
-// The node that a link comes from.
+// The node that a link begins at.
 fn writer(board: &Board, link: u32) -> u32
     requires { link < length (layout board.now).shape.links }
     ensures { result ≡ (link_at (layout board.now) link).from.node }

@@ -108,7 +108,7 @@ module _ (score : Score) (k c n : ℕ) (w : IsWorkedIn score k c n) where
   pub now_is : (i : ℕ) → channels_at plan c (port_at n i) ≡ ch i
   now_is i = ap (λ o. channels_of (listed (λ x. x.forms) o) (port_at n i)) (here score k c n w)
 
-  -- what comes in is as wide as that
+  -- what is received is as wide as that
   pub came_long : (i : ℕ) (a : List ℤ) → a ≡ comes_in score c n i → length a ≡ wide_at plan c n i
   came_long i a is = ap length is ∙ ⊎_elim
       (λ (t : nat_lt i (input_count (kind_at plan n)) ≡ true).

@@ -1,4 +1,5 @@
--- A node that does not work in an epoch: nothing comes to its inputs, so its state is the one that it was.
+-- A node that does not work in an epoch: its inputs receive nothing, so its state is the one that
+-- it was.
 use Rattle.std.proofs.Common.{◌≡◌, ℕ, zero, suc, ◌+◌, ◌-◌, ◌*◌, ◌<◌, ◌≤◌, ◌==◌, ◌||◌, Bool, true, false, not, nat_lt, cond}
 use Rattle.std.proofs.Common.{List, [], ◌∷◌, ◌++◌, length, filter, Some, option_map, unwrap_or, refl, sym, ap, ◌∙◌, subst, arith}
 use Rattle.std.proofs.Common.{⊎_elim, append-nil, ℤ}
@@ -35,7 +36,7 @@ use Rattle.node_progress.specs.NodeStates.{first_of, IsNodeState}
 use Rattle.node_progress.proofs.StateLemmas.{not_released}
 use Rattle.node_progress.proofs.RestLemmas.{nothing_in, have_cycles}
 
--- a state stands for streams alone
+-- a state stands for streams only
 pub alike : (score : Score) (n : ℕ) (s : NodeState) (r q : Received) → r.a ≡ q.a → r.b ≡ q.b → StandsFor s (read_by score n s r)
     → StandsFor s (read_by score n s q)
 alike score n s r q ea eb = subst (λ (ab : List ℤ × List ℤ).
@@ -140,7 +141,7 @@ module _ (score : Score) (k : ℕ) (e : Epoch) (n : ℕ) (sound : IsSoundPlan sc
         (subst (λ (r : Received). StandsFor s (read_by score n s r)) (sym (released_is plan out c n sound.follow
         ∙ cond-false (is_released plan.epochs c n) (released (received_until plan out c n)) (received_until plan out c n) stays)) so_far)
 
-  -- it works in none of the cycles
+  -- it works in no cycle
   works_not : (c : ℕ) → IsOf c → works plan n c ≡ false
   works_not c of = ap (λ o. unwrap_or (option_map (λ x. works_in x n) o) false) (here c of) ∙ off
 

@@ -39,7 +39,7 @@ one_more p c t =
     ∙ length-append (filter p (range_with_len 0 c)) (filter p (c ∷ []))
     ∙ ap (λ r. length (filter p (range_with_len 0 c)) + length r) (cond-true (p c) (c ∷ []) [] t)
 
--- what comes to a stream, or to none
+-- what is added to a stream, or to no stream
 both : (yes : Bool) (old new : List ℤ) → cond yes old [] ++ cond yes new [] ≡ cond yes (old ++ new) []
 both true old new = refl
 both false old new = refl
@@ -80,7 +80,7 @@ module _ (score : Score) (c n : ℕ) (e : Epoch) (at : epoch_at score.plan.value
   active : is_active plan c n ≡ true
   active = active_in plan c e n at ∙ part
 
-  -- the stream of an input goes on with what comes in
+  -- the stream of an input goes on with what is received
   goes_on : (i : ℕ) → cond (nat_lt i (input_count kind)) (begun plan out c (port_at n i)) [] ++ comes_in score c n i
       ≡ cond (nat_lt i (input_count kind)) (stream_of plan out c (port_at n i)) []
   goes_on i = both (nat_lt i (input_count kind)) (begun plan out c (port_at n i)) (input_of plan out c (port_at n i))

@@ -121,7 +121,7 @@ nothing_summed : (rows : List (List ℤ)) → fold summed [] rows ≡ []
 nothing_summed [] = refl
 nothing_summed (r ∷ rows) = nothing_summed rows
 
--- so nothing comes to it
+-- so it receives nothing
 pub nothing_in : (plan : Plan) (out : Outputs) (c : ℕ) (port : PortId) → channels_at plan c port ≡ 0 → input_of plan out c port ≡ []
 nothing_in plan out c port none =
     let zero_samples : plan.quantum * channels_at plan c port ≡ 0 = ap (λ m. plan.quantum * m) none ∙ none_of plan.quantum in
@@ -275,7 +275,7 @@ module _ (score : Score) (k c n : ℕ) (w : IsEndOf score k c n) where
     pub allowed : AllowsChannels (kind_at plan n) n_channels
     allowed = named_allowed plan w.sound (suc k) n n_channels named
 
-    -- a sink that is named has had no form, so nothing came to it
+    -- a sink that is named has had no form, so it received nothing
     no_stream : kind_at plan n ≡ Sink → (received_until plan out c n).a ≡ []
     no_stream sink = by c refl
       where

@@ -33,7 +33,7 @@ use Rattle.node_progress.specs.NodeCycles.{HasItsFrames}
 use Rattle.node_progress.specs.NodeStates.{first_of, IsNodeState, IsWorkedIn}
 use Rattle.node_progress.proofs.NodeLemmas.{one_more}
 
--- RELEASES come with the first cycle of an epoch alone
+-- RELEASES happen only with the first cycle of an epoch
 
 pub none_later : (f : ℕ) (es : List Epoch) (c n : ℕ) → FollowFrom f es → c < f → is_released es c n ≡ false
 none_later f [] c n follow low = refl

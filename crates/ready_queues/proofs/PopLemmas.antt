@@ -13,7 +13,7 @@ use Rattle.ready_queues.specs.Ends.{hand_of, wakes_of, AreEndsOf, received_by}
 use Rattle.ready_queues.specs.Receiving.{IsSameEnd, AreSameEnds, HasReceivedAt, HasReceived, WasEmpty}
 use Rattle.ready_queues.proofs.EndLemmas.{related, end_at, ends_set, some_is, slice_get_set}
 
--- what a pop tells: of the hand before and the hand after
+-- what a pop says of the hand before and the hand after
 abbrev pub Popped : Option ℕ → Hand → Hand → Type 0
 Popped result h k = MatchOption result ((k ≡ h) × HeldAt 0 h) (λ x. (k ≡ with_received h x) × IsNodeOf h.owner h.number x)
 

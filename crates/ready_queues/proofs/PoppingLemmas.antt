@@ -1,4 +1,4 @@
--- What is popped off a list stood at its end.
+-- What is popped off a list was at its end.
 use Rattle.std.proofs.Common.{◌≡◌, ℕ, zero, suc, ◌+◌, Option, List, [], ◌∷◌, ◌++◌, length, sym, ap, ◌∙◌, subst, refl, arith, length-append}
 use Rattle.std.specs.Prelude.{Some, slice_get, option_to_list}
 use Rattle.std.proofs.lemmas.Option.{none-some}

@@ -130,7 +130,7 @@ fresh owner number zero v at = let w : Hand = hand owner number [] [] in inr (
 )
 fresh owner number (suc port) v at = absurd (some-ne-none v (sym at))
 
--- the queue is told whose it is
+-- the queue is named for its loop
 pub may_name : (owner : List ℕ) (number port : ℕ) (v : Hand) → v ≡ unnamed → Forks Keeps port v (hand owner number [] []) (hand owner number [] [])
 may_name owner number port v is items hands kept at = let w : Hand = hand owner number [] [] in ⊎_elim
     (λ (u : IsUnnamed items hands). subst (λ (p : List ℕ × List Hand). Keeps p.0 (set p.1 port w ++ w ∷ [])) (λ i. (sym u.0 i, sym u.1 i))

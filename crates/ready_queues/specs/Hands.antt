@@ -13,7 +13,7 @@ hand owner number pushed received = record {
   received = received;
 }
 
--- the one hand of a queue that has not been told whose it is
+-- the one hand of a queue that has not been named for its loop
 abbrev pub unnamed : Hand
 unnamed = record { named = false; owner = []; number = 0; pushed = []; received = [] }
 

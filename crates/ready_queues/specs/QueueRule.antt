@@ -1,5 +1,5 @@
 -- The rule of a ready queue: each number in it is a node of its loop, and of each node the pushes
--- of all ways are as many as the times that it was received and that it stands in the queue.
+-- of all ways are as many as the times that it was received and that it is in the queue.
 -- Source: this project's own; the queue is crossbeam's ArrayQueue.
 use Rattle.std.specs.Prelude.{◌≡◌, ℕ, ◌+◌, ◌⊎◌, true, List, [], ◌∷◌, length, All, eqb, filter, Some, slice_get}
 use Rattle.std.specs.List.{sum_by}
@@ -13,7 +13,7 @@ use Rattle.ready_queues.specs.Hands.{unnamed}
 abbrev pub IsNodeOf : List ℕ → ℕ → ℕ → Type 0
 IsNodeOf owner number node = slice_get owner node ≡ Some number
 
--- how often a number stands in a list
+-- how often a number is in a list
 abbrev pub times : ℕ → List ℕ → ℕ
 times x xs = length (filter (λ y. eqb y x) xs)
 
@@ -35,7 +35,7 @@ pub record IsQueue (owner : List ℕ) (number : ℕ) (items : List ℕ) (hands :
   pub named : (k : ℕ) (h : Hand) → get_elem? hands k ≡ some h → IsHandOf owner number h
   pub balanced : (x : ℕ) → pushes x hands ≡ receipts x hands + times x items
 
--- a queue that has not been told whose it is holds nothing, and no way has it yet
+-- a queue that has not been named for its loop holds nothing, and no way has it yet
 abbrev pub IsUnnamed : List ℕ → List Hand → Type 0
 IsUnnamed items hands = (items ≡ []) × (hands ≡ unnamed ∷ [])
 

@@ -1,7 +1,7 @@
 //! The word by which a thread sees that it was called, before it sleeps.
 //!
 //! A thread that sleeps is slow to come back. So one that has nothing to do looks at its word for
-//! some microseconds first. The word is a hint alone: what a thread rests on is its token, and
+//! some microseconds first. The word is only a hint: what a thread rests on is its token, and
 //! contracts see nothing of the word.
 ghost use Rattle.std.specs.Prelude.{◌≡◌, ◌≤◌, ◌⊎◌, false};
 ghost use Rattle.ready_queues.specs.Looking.{IsInVain, spins_limit};
@@ -120,7 +120,7 @@ impl Call {
         }
     }
 
-    // Notes what a look came to, after so many in vain. A thread that was called before it spun has
+    // Notes what a look found, after so many in vain. A thread that was called before it spun has
     // not learnt whether spinning helps.
     fn note(&self, vain: u64, look: &Look) {
         let count: &AtomicU64 = &self.vain;

@@ -1,10 +1,10 @@
 //! What one way knows of the queue of one loop.
 use std::collections::LinkedList;
 
-/// What a way has done with the queue of a loop. No value of it is made: contracts alone see it, as
+/// What a way has done with the queue of a loop. No value of it is made: only contracts see it, as
 /// the view of the way's pass to the queue.
 pub struct Hand {
-    /// Whether the queue has been told whose it is.
+    /// Whether the queue has been named for its loop.
     pub named: bool,
     /// The loop of each node.
     pub owner: LinkedList<u32>,

@@ -22,8 +22,8 @@ use std::alloc::Global;
 use std::marker::Brand;
 use std::sync::atomic::AtomicU64;
 
-// A queue that is told whose it is, with one pass to it. What it is told is named at the call, by
-// these arguments.
+// A queue that is named for its loop, with one pass to it. The name is given at the call, by these
+// arguments.
 fn open_queue<N: Named>(
     alloc: Global,
     _owner: &Items<u32>,

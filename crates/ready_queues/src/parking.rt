@@ -9,7 +9,7 @@ use crossbeam_utils::sync::parker::{Pass, RuledParker, RuledUnparker};
 use std::sync::Wait;
 
 /// How often a way has unparked a thread, and how often it has rested as that thread. No value of
-/// it is made: contracts alone see it.
+/// it is made: only contracts see it.
 pub struct Woken {
     pub given: u64,
     pub taken: u64,

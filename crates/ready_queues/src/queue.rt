@@ -5,7 +5,7 @@ use crossbeam_queue::{Pass, RuledArrayQueue};
 use std::marker::{Brand, PhantomData};
 
 /// The rule of a ready queue: each number in it is a node of its loop, and each node was pushed as
-/// often as it was received and stands in the queue.
+/// often as it was received and is in the queue.
 pub struct QueueRule;
 
 impl Protocol<u32, Hand> for QueueRule {
@@ -23,7 +23,7 @@ pub(crate) type Queue = RuledArrayQueue<u32, Hand, QueueRule>;
 /// The right of one way to push into a queue and to pop from it. It has no bytes.
 pub(crate) type QueuePass = Pass<u32, Hand>;
 
-/// Names the loop of a queue, and the loop of each node. Contracts alone see it.
+/// Names the loop of a queue, and the loop of each node. Only contracts see it.
 pub(crate) trait Named {
     ghost use Rattle.std.specs.Prelude.{ℕ, List};
 
@@ -40,7 +40,7 @@ impl Named for Brand {
     ghost number = { 0 };
 }
 
-/// The first pass of a queue tells it whose it is.
+/// The first pass of a queue names the queue for its loop.
 pub(crate) struct Naming<N> {
     name: PhantomData<N>,
 }

@@ -1,4 +1,5 @@
--- A claim finds a node triggered in its own cycle alone, whatever the driver does. Elsewhere it changes no word.
+-- A claim finds a node triggered only in its own cycle, whatever the driver does. Elsewhere it
+-- changes no word.
 use Rattle.std.proofs.Common.{◌≡◌, ◌≢◌, ℕ, suc, ◌+◌, ◌-◌, ◌*◌, ◌<◌, ◌⊎◌, inl, inr, ⊎_elim, true, true≢false, cond, eqb}
 use Rattle.std.proofs.Common.{List, [], set, get_or, refl, sym, ap, ◌∙◌, subst, arith, eq-eqb, ne_eqb}
 use mathlib.Core.Logic.{dite}

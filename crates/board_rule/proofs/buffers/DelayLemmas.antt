@@ -1,4 +1,5 @@
--- A link is late by one cycle or by none: which of its areas has a stamp, and how long a block of its pool is busy.
+-- A link is late by one cycle or not: which of its areas has a stamp, and how long a block of its
+-- pool is busy.
 use Rattle.std.proofs.Common.{◌≡◌, ◌≢◌, ℕ, ◌+◌, ◌%◌, ◌≤◌, Bool, true, false, cond, refl, ap, ◌∙◌, arith}
 use Rattle.pw_graph.specs.declared.shape.ShapeLink.{ShapeLink}
 use Rattle.board_rule.specs.declared.view.WriteView.{WriteView}

@@ -54,7 +54,7 @@ module _ (p : BoardLayout) (s : ℕ → Span) (ends : Ends) (e : Samples) (ws : 
         let n = paced.near (p.index k.0.from.node) (p.index k.0.to.node) (w.from_in l k.0 k.1) (w.to_in l k.0 k.1) in
         let f : (s (p.index k.0.from.node)).begun ≡ filler.begun = ap (λ (z : Span). z.begun) k.2 in omega arith
 
-    -- and none has yet begun the reading cycle of this one
+    -- and no reader has yet begun the reading cycle of this one
     readers_wait : (l : ℕ) → Contains x.links l → (ends.reads l).lowered ≤ filler.ended + delay_at p l
     readers_wait l c = let k = spans_of l c in let o = b.links q l x k.0 at c k.1 in let rt = o.reader_turn in let r₂ = rt.2 in
         let r₃ = rt.3 in let t = late_is p l k.0 k.1 in

@@ -262,7 +262,7 @@ module _ (p : BoardLayout) where
       seat_to i z h q = ap (λ (j : ShapeLink). holder p (p.index j.to.node)) (sym (link_is i z h) ∙ ap (link_at p) q ∙ link_is l x there)
           ∙ mine
 
-  -- a block is put at its index; no other block stands there
+  -- a block is put at its index; no other block is there
   pub block_step : (g : Whole) (words after : List ℕ) (views : List View) (id q b : ℕ) (x : PoolShape) (v : View) (y : BlockView)
       → get_elem? views id ≡ some v → length after ≡ length words → PoolAt p q x → b < x.blocks → holder p (p.index x.port.node) ≡ v.number
       → v.number < p.seats

@@ -1,5 +1,5 @@
--- What the activation rule tells the buffer rule: a node begins a cycle only after the writers of its links have ended it, and all nodes
--- are within one cycle.
+-- What the buffer rule gets from the activation rule: a node begins a cycle only after the writers
+-- of its links have ended it, and all nodes are within one cycle.
 use Rattle.std.proofs.Common.{◌≡◌, ◌≢◌, ℕ, ◌+◌, ◌<◌, ◌≤◌, Bool, true, false, true≢false, cond, eqb, List, [], length, refl, sym, ap, ◌∙◌}
 use Rattle.std.proofs.Common.{subst, arith, eq-eqb, ne_eqb}
 use mathlib.Core.Logic.{dite}
@@ -95,7 +95,7 @@ drive_awake drives.Awake h = absurd (omega arith)
 drive_awake drives.StartDrawn h = absurd (omega arith)
 
 module _ (p : BoardLayout) where
-  -- what the activation rule tells of the spans of all indexes
+  -- what the activation rule says of the spans of all indexes
   pub record Paced (s : ℕ → Span) : Type 0 where
     pub first : (n : ℕ) → n < nodes p → first p ≤ (s n).ended
     pub begun : (n : ℕ) → n < nodes p → (s n).ended ≤ (s n).begun

@@ -160,7 +160,7 @@ module _ (p : BoardLayout) (s : ℕ → Span) (ends : Ends) (e : Samples) (ws : 
                   (ap (stamp (s (p.index x.port.node)).ended) mine ∙ f ∙ sym (ap (stamp (s (p.index x.port.node)).ended) st.1)),
             )
 
-        -- another block: none of its readers is the one that steps, or that one waits for it as before
+        -- another block: no reader of it is the one that steps, or that one waits for it as before
         others : (n t m : ℕ) (z : PoolShape) → PoolAt p t z → m < z.blocks → ((t ≡ q) × (m ≡ (ends.reads l).id) → ⊥)
             → get_or (set ws (readers_place p.shape q (ends.reads l).id) n) (readers_place p.shape t m) 0
             ≡ readers_of p after_reads z (ends.blocks t m)

@@ -68,7 +68,7 @@ module _ (p : BoardLayout) where
   pub begun_lead : (g : Whole) (n : ℕ) → n ≡ p.driver → (spans p g n).begun ≡ lead_begun g.lead
   begun_lead g n e = ap (λ b. cond b (lead_begun g.lead) (node_begun (g.nodes n))) (eq-eqb n p.driver e)
 
-  -- the words of the other rules are none of the buffer rule's
+  -- the words of the other rules are not the buffer rule's
   pub early_word : (ws : List ℕ) (i x : ℕ) → i ≤ nodes p + nodes p → SameBuffers p ws (set ws i x)
   early_word ws i x low j h = get_or-set_other ws i j x 0 (λ e. ⊎_elim (λ z. let a = z.0 in omega arith) (λ z. omega arith) h)
 

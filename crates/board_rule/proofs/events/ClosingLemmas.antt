@@ -50,7 +50,7 @@ event_read (Finish c n) h = grind arith
 event_read (Tick c late) h = grind arith
 event_read (End c) h = grind arith
 
--- a Tick that is read is one that stands there
+-- a Tick that is read is one that is there
 pub tick_read : (first lates : ℕ) (ws : List ℕ) (e : Event) (c l x : ℕ) → (let t : Event = Tick c l in t) ≡ told_late 0 e
     → LateOf first lates e ws → get_elem? ws (lates + (c - first)) ≡ some x → (let t : Event = Tick c x in t) ≡ e
 tick_read first lates ws (Begin k) c l x q h w = cc

@@ -89,7 +89,7 @@ not_true true h = absurd (h refl)
 not_true false h = refl
 
 module _ (p : BoardLayout) where
-  -- all that come before a node that is awake have drawn their Finish
+  -- all that precede a node that is awake have drawn their Finish
   pub done_before : (g : Whole) (ws : List ℕ) (n : ℕ) → IsSound p → Activations p g ws → (is_resetting g.lead.drive ≡ true → ⊥)
       → n < nodes p → (progress p g).stage n ≡ 1 → (m : ℕ) → m < nodes p → Precedes p.shape (p.number m) (p.number n)
       → (counts p g).finished m ≡ 1

@@ -55,7 +55,7 @@ times_append n [] ys = omega arith
 times_append n (x ∷ xs) ys = let a = times_append n xs ys in omega arith
 
 module _ (pl : ℕ → ℕ) (f : ℕ → Bool) (j : ℕ) where
-  -- how often an index stands among those of the elements that pass: none of them has it, or one has
+  -- how often an index is among those of the elements that pass: no element has it, or one has
   times_absent : (xs : List ℕ) → ((k : ℕ) → k < length xs → pl (get_or xs k 0) ≢ j) → times j (map pl (filter f xs)) ≡ 0
   times_absent [] o = refl
   times_absent (x ∷ xs) o = let a = times_absent xs (λ k h. o (suc k) (omega arith)) in ap (times j) (map_by pl (f x) x (filter f xs))
@@ -84,7 +84,7 @@ module _ (pl : ℕ → ℕ) (f : ℕ → Bool) (j : ℕ) where
           ap (λ b. cond {A = ℕ} b 1 0) (ne_eqb (pl x) j (o 0 (omega arith) (λ z. omega arith))) in omega arith
       by false z = omega arith
 
--- the last element of a list stands in each end of it
+-- the last element of a list is in each end of it
 last_stands : (d i : ℕ) (xs : List ℕ) → i < length (xs ++ d ∷ []) → 0 < times d (drop i (xs ++ d ∷ []))
 last_stands d zero [] h = let a = times_here d [] in omega arith
 last_stands d (suc i) [] h = absurd (omega arith)
@@ -125,7 +125,7 @@ module _ (shape : Shape) (s : IsSoundShape shape) where
       (λ k q. ne_eqb (get_or ns k 0) (get_or ns i 0) (λ e. let r = rises ns s.nodes.ascend k i q (omega arith) in omega arith))
       (λ _. eq-eqb (get_or ns i 0) (get_or ns i 0) refl)
 
-  -- a node that is there has the number that stands at its index
+  -- a node that is there has the number that is at its index
   pub at_index : (n : ℕ) → index n < node_count shape → get_or ns (index n) 0 ≡ n
   at_index n h = let l = long in eqb-true (get_or ns (index n) 0) n (passes_at_first (λ k. k == n) ns 0 (omega arith))
 

@@ -24,7 +24,7 @@ use Rattle.board_rule.specs.buffers.BlockReadings.{Ends, is_busy, stamp, filled,
 use Rattle.board_rule.specs.buffers.EndViews.{no_link, no_pool, link_in, pool_in}
 use Rattle.board_rule.proofs.buffers.WiringLemmas.{LinkAt, PoolAt, Wired, busy_cycles_some}
 
--- of two words the one that stands in the area of the first cycle, and the other
+-- of two words the one that is in the area of the first cycle, and the other
 pick : (f a b : ℕ) → (get_or (cond (f % 2 == 0) (a ∷ b ∷ []) (b ∷ a ∷ [])) (f % 2) 0 ≡ a)
     × (get_or (cond (f % 2 == 0) (a ∷ b ∷ []) (b ∷ a ∷ [])) ((f + 1) % 2) 0 ≡ b)
 pick f a b = dite (ℕ_discrete (f % 2) 0)

@@ -1,4 +1,5 @@
--- Laws of `specs/Known.antt`: what a loop's seat keeps of an entry stands at its slot, and follows the view.
+-- Laws of `specs/Known.antt`: what a loop's seat keeps of an entry is at its slot, and follows the
+-- view.
 use Rattle.std.proofs.Common.{◌≡◌, ℕ, false, ◌+◌, ◌^◌, ◌<◌, List, map, length, set, get_or, sym, ap, ◌∙◌, subst, arith}
 use Rattle.std.proofs.lemmas.List.{length-map, get_or-map, get_or_default}
 use Rattle.board_rule.specs.declared.view.BlockView.{BlockView}

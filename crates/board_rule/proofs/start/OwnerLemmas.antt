@@ -1,4 +1,4 @@
--- Laws of `specs/Owners.antt`: an entry stands among its owner's at its slot, and is set there.
+-- Laws of `specs/Owners.antt`: an entry is among its owner's at its slot, and is set there.
 use Rattle.std.proofs.Common.{◌≡◌, ℕ, zero, suc, ◌+◌, ◌-◌, ◌<◌, ◌≤◌, Bool, true, false, cond, eqb, List, [], ◌∷◌, ◌++◌, map, take}
 use Rattle.std.proofs.Common.{length, get_or, set, replicate, zip, filter, refl, sym, ap, ◌∙◌, subst, arith, eq-eqb, slice_index}
 use Rattle.std.specs.Prelude.{sum_by}
@@ -45,7 +45,7 @@ module _ {A : Type 0} (k : ℕ) where
   own_cons : (o : ℕ) (os : List ℕ) (x : A) (xs : List A) → own k (o ∷ os) (x ∷ xs) ≡ cond (eqb o k) (x ∷ own k os xs) (own k os xs)
   own_cons o os x xs = map_by (λ (t : ℕ × A). t.1) (eqb o k) (o, x) (filter (λ (t : ℕ × A). eqb t.0 k) (zip os xs))
 
-  -- what stands at its slot
+  -- what is at its slot
   pub own_at : (os : List ℕ) (xs : List A) (i : ℕ) (d : A) → i < length os → i < length xs → slice_index os i ≡ k
       → get_or (own k os xs) (own_before k os i) d ≡ get_or xs i d
   own_at [] xs i d h l e = absurd (omega arith)

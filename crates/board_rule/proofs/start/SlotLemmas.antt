@@ -17,7 +17,7 @@ use Rattle.board_rule.proofs.start.OwnerLemmas.{SitsAt, own_run, row_inside, row
 no_node : ShapeNode
 no_node = record { node = 0; required = 0; targets = [] }
 
--- a slot is not behind its entry
+-- a slot is not after its entry
 pub slot_low : (os : List ℕ) (i : ℕ) → slot_in os i ≤ i
 slot_low os i = let c = count_by-le-length (λ o. eqb o (slice_index os i)) (take i os) in let l = length-take i os in omega arith
 

@@ -28,7 +28,7 @@ module _ (p : BoardLayout) where
 
   -- THE RECLAIMS of a pool x, a load of a readers word in each cycle but the first, where nothing
   -- is to be reclaimed.
-  -- `turn`: it comes after the loads of all links of the pool and before the stores. `until`: no
+  -- `turn`: it is after the loads of all links of the pool and before the stores. `until`: no
   -- block is out longer
   pub record Reclaims (x : PoolShape) (reclaimed : ℕ) (writes : ℕ → WriteView)
       (blocks : ℕ → BlockView) : Type 0 where

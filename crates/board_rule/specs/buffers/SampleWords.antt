@@ -1,5 +1,5 @@
--- How samples stand in the words of a block: four in a word, the first in the lowest bits, as two's
--- complement.
+-- How samples are stored in the words of a block: four in a word, the first in the lowest bits, as
+-- two's complement.
 -- Source: SPA_AUDIO_FORMAT_S16_LE; four samples a word are this project's own.
 use Rattle.std.specs.Prelude.{◌≡◌, ℕ, ℤ, pos, neg_ℤ, ◌≤ℤ◌, ◌+◌, ◌-◌, ◌*◌, ◌<◌, List, [], Some, All, length, cond, ltb, map}
 use Rattle.std.specs.Prelude.{replicate, slice_get, slice_index_or}
@@ -30,7 +30,7 @@ module _ (p : BoardLayout) where
   samples_in e cycle q = slice_index_or (slice_index_or e (cycle - first p) []) q []
 
   -- the samples of a block whose stamp is n: it was announced in the cycle before n. Before the
-  -- first cycle there were none, so its words are 0
+  -- first cycle there were no samples, so its words are 0
   abbrev pub samples_of : Samples → ℕ → ℕ → List ℤ
   samples_of e n q = cond (ltb (first p) n) (samples_in e (n - 1) q) []
 

@@ -16,7 +16,7 @@ abbrev pub HasEndedAll : BoardLayout → View → Type 0
 HasEndedAll p v = Owns true p v p.driver × (v.lead.cycle ≡ last p)
 
 -- the driver's view when no more seats are split off, and the view that is kept of a board: it is
--- of no seat that steps, and knows the samples alone
+-- of no seat that steps, and knows only the samples
 abbrev pub last_view : BoardLayout → View → View
 last_view p v = record v { split = suc p.seats }
 
@@ -45,7 +45,7 @@ abbrev pub IsInRange : ℕ → Event → Type 0
 IsInRange first e = (first ≤ event_cycle e) × (event_cycle e < 2 ^ 32)
     × (event_node e ≤ dummy_node)
 
--- the late set of a Tick stands in the word of its cycle, counted from `first`, behind those before
+-- the late set of a Tick is in the word of its cycle, counted from `first`, after those before
 -- `lates`
 abbrev pub LateOf : ℕ → ℕ → Event → List ℕ → Type 0
 LateOf first lates (Tick k set) words = (lates + (k - first) < length words)

@@ -38,7 +38,7 @@ StoresEvent true p v m = HasNode true p v m × CanStoreLead v.lead.drive
 StoresEvent false p v m = HasNode false p v m × CanStore (node_of v m).phase
     × (ticket_of false v m < event_count p.shape)
 
--- its event, where the node has the number n; the late set of a Tick stands in a word of its own
+-- its event, where the node has the number n; the late set of a Tick is in a word of its own
 abbrev pub node_tells : NodeView → ℕ → Phase → Event
 node_tells x n StartDrawn = Start x.next n
 node_tells x n _ = Finish x.next n

@@ -44,7 +44,7 @@ module _ (p : BoardLayout) where
     pub told_kept : (t : ℕ) (e : Event) → Contains s.tells (t, e)
         → (base ≤ t) × (slice_get log t ≡ Some e)
 
-  -- EARLIER CYCLES are a legal history, and each late set stands in its word
+  -- EARLIER CYCLES are a legal history, and each late set is in its word
   pub record Earlier (c late : ℕ) (past : List Event) (r : Records) : Type 0 where
     pub legal : AreJoined (epoch_cycles p.shape (c - first p)) past
     pub before : All (λ e. (first p ≤ event_cycle e) × (event_cycle e < c)
@@ -53,7 +53,7 @@ module _ (p : BoardLayout) where
     pub late_now : c < last p → r.late (c - first p) ≡ late
     pub late_later : (k : ℕ) → c < k → k < last p → r.late (k - first p) ≡ 0
 
-  -- THE CYCLE: the events between Begin and End, by the phases, each after those that come before
+  -- THE CYCLE: the events between Begin and End, by the phases, each after those that precede it
   -- it
   pub record Inside (c late : ℕ) (k : Counts) (inside : List Event) : Type 0 where
     pub only : All (IsSoFar c late) inside

@@ -14,7 +14,7 @@ use Rattle.board_rule.specs.events.Closing.{last_view}
 
 -- THE ORDER OF TICKETS: in a last state of the board, which its rule allows and in which its
 -- driver's seat has the last of the view v, `count` tickets are drawn, one an event, and in the
--- word of each ticket stands `each` event of that index
+-- word of each ticket is `each` event of that index
 pub record AreInTicketOrder (p : BoardLayout) (v : View) (events : List Event) : Type 0 where
   pub state : State (Option ℕ) View
   pub allowed : Holds p state

@@ -1,4 +1,4 @@
--- Whose each node, link and block is, and what a seat keeps of a list: its own entries alone, in
+-- Whose each node, link and block is, and what a seat keeps of a list: only its own entries, in
 -- their order.
 -- Source: this project's own.
 use Rattle.std.specs.Prelude.{◌≡◌, ℕ, ◌<◌, cond, eqb, List, map, take, zip, filter, length, replicate, count_by, slice_index}

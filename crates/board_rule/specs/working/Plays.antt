@@ -1,5 +1,5 @@
--- What a step tells its seat: the view after it, by the number found, and a fact about that number.
--- Source: this project's own.
+-- What a seat learns by a step: the view after it, by the number found, and a fact about that
+-- number. Source: this project's own.
 use Rattle.std.specs.Prelude.{◌≡◌, ℕ, []}
 use Rattle.atomic_table.specs.Table.{Me}
 use Rattle.board_rule.specs.declared.view.Owners.{Owners}

@@ -19,7 +19,7 @@ abbrev pub base_of : Shape → ℕ → ℕ
 base_of shape q = event_place shape (event_count shape) + sum_by pool_words
     (take q (pools_of shape))
 
--- a link whose area stands at an index: its nodes by index, its pool, where the words of that pool
+-- a link whose area is at an index: its nodes by index, its pool, where the words of that pool
 -- begin, and how many each block has
 pub record IsLinkRow (shape : Shape) (link : ShapeLink) (area : ℕ) (row : LinkRow) : Type 0 where
   pub writer : row.writer ≡ index_in shape link.from.node
@@ -35,8 +35,8 @@ pub record HasLinkRows (shape : Shape) (rows : List LinkRow) : Type 0 where
   pub each : (l : ℕ) (d : LinkRow) → l < length shape.links
       → IsLinkRow shape (link_in shape l) (io_place shape l 0) (slice_index_or rows l d)
 
--- a pool whose first block has an index in a view, and whose words stand from `base` on: its node
--- by index, its blocks, words and readers
+-- a pool whose first block has an index in a view, and whose words are stored from `base` on: its
+-- node by index, its blocks, words and readers
 pub record IsPoolRow (shape : Shape) (pool : PoolShape) (first base : ℕ)
     (row : PoolRow) : Type 0 where
   pub filler : row.filler ≡ index_in shape pool.port.node

@@ -4,7 +4,7 @@ use atomic_table::Play;
 use std::marker::{Brand, PhantomData};
 
 /// Whether the seat is the driver's, the view after the step by the number found, and what the step
-/// tells of that number.
+/// says of that number.
 pub(crate) trait Change {
     ghost use Rattle.std.specs.Prelude.{ℕ, Bool};
     ghost use Rattle.board_rule.specs.declared.view.View.{View};
@@ -38,7 +38,7 @@ impl<C: Change> Play<Option<u64>, View> for Becomes<C> {
     ghost then = { λ _. Leaves C.after };
 }
 
-/// A step that also tells what `C` says of the number found.
+/// A step that also ensures what `C` says of the number found.
 pub(crate) struct Learned<C> {
     change: PhantomData<C>,
 }
