@@ -123,7 +123,7 @@ module _ (p : BoardLayout) (t : TableId) (s : LoopState) (end : IsAtEnd p t s) w
       → IsNodeState s.score s.epoch (next_first plan s.epoch) (node_at s j) (get_or s.states.items j d)
   states_so j d less = subst (λ c. IsNodeState s.score s.epoch c (node_at s j) (get_or s.states.items j d)) (sym (next_is j less)) (all_done j less d)
 
-  -- what the next epoch's stage says of a node, or of none
+  -- what the next epoch's stage says of a node, or of no node
   pub restarts_so : (next : ℕ) → next ≡ suc s.epoch → (j : ℕ) → j < length s.nodes
       → restart_at (restarts_in s.stages.items next) j ≡ restart_of plan (suc s.epoch) (node_at s j)
   restarts_so next is j less = ap (λ k. restart_at (restarts_in s.stages.items k) j) is

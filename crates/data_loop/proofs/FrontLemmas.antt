@@ -19,7 +19,7 @@ use Rattle.data_loop.specs.Stages.{IsStanding}
 use Rattle.data_loop.specs.Tries.{no_member}
 use Rattle.data_loop.specs.LoopTurn.{next_in, least_next}
 
--- all have ended none
+-- all have ended no cycle
 pub front_first : (p : BoardLayout) (v : View) (members : List Member) → All (λ m. next_in p v m.node ≡ first p) members
     → IsFront p v members first_front
 front_first p v members all = record {
@@ -99,7 +99,7 @@ least_more p v members i low = ap (fold (λ c m. min c (next_in p v m.node)) (la
     by c [] = refl
     by c (m ∷ ms) = by (min c (next_in p v m.node)) ms
 
--- none in the whole list
+-- no member in the whole list
 pub none_all : (p : BoardLayout) (v : View) (members : List Member) (least i n : ℕ) → length members ≤ i → n ≡ length members
     → NoneAt p v members least i → NoneAt p v members least n
 none_all p v members least i n past is h = subst (All (λ m. next_in p v m.node ≢ first p + least))

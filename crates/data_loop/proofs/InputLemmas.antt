@@ -145,7 +145,7 @@ module _ (b : Bool) (score : Score) (p : BoardLayout) (pooled : IsPooledBoard p)
     abbrev by_cycle : List ℤ
     by_cycle = if c == first_at plan c then silence (plan.quantum * link.channels) else out (c - 1) link.from
 
-    -- it comes by the board as by the cycle function, a cycle late where it is delayed
+    -- it is received by the board as by the cycle function, a cycle late where it is delayed
     brought_is : brought_in p (epoch_rows plan score.waves.value h.epoch) l c ≡ brought plan out c link
     brought_is = ⊎_elim late prompt (cases_Bool link.delayed)
       where

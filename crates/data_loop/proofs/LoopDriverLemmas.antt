@@ -80,7 +80,7 @@ module _ (p : BoardLayout) (t : TableId) (s : LoopState) (on : IsOnBoard p t s) 
       epoch_there : (es : List Epoch) (k : ℕ) (x : Epoch) → slice_get es k ≡ Some x → Contains es x
       epoch_there es k x at = (k, slice_get_within es k x at, get_or_from_slice_get es k x x at)
 
-  -- where the driver is formless, or the dummy, no link comes to it
+  -- where the driver is formless, or the dummy, no link leads to it
   pub no_link_in : on.stage.driver ≡ [] → DrivesFrom p s → HasNoLinkIn p
   no_link_in none from_here l low reads =
       let plain = on.stands.equipped.plain in

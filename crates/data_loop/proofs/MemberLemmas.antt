@@ -30,7 +30,7 @@ module _ (plan : Plan) (nodes : List ℕ) (e : Epoch) (is_driver : Bool) where
   abbrev one : ℕ × ℕ → Member
   one x = member_of plan e x.1 x.0
 
-  -- where a member comes from
+  -- where a member is from
   pub record ComesFrom (m : Member) : Type 0 where
     pub low : m.at < length nodes
     pub node : slice_index nodes m.at ≡ m.node

@@ -1,4 +1,4 @@
--- A node that reads one link alone, at its first input.
+-- A node that reads only one link, at its first input.
 use Rattle.std.proofs.Common.{◌≡◌, ℕ, ℤ, pos, ◌+ℤ◌, suc, zero, Bool, true, false, not, List, [], ◌∷◌, length, map, refl, sym, ap, ap₂, ◌∙◌, subst, arith}
 use Rattle.std.specs.Prelude.{All, Some, replicate}
 use Rattle.std.proofs.lemmas.Int.{ints}

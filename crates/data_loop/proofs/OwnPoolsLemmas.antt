@@ -39,7 +39,7 @@ module _ {X : Type 0} (p : X → Bool) where
       by true rest = omega (arith, rest)
       by false rest = rest
 
-  -- one that passes stands before all that come after it, at its own place
+  -- one that passes is before all that follow it, at its own place
   before_later : (xs : List X) (i j : ℕ) (d : X) → i < j → i < length xs → p (get_or xs i d) ≡ true → before xs i < before xs j
   before_later [] i j d less low passes = absurd (omega (arith, low))
   before_later (x ∷ xs) i zero d less low passes = absurd (omega (arith, less))

@@ -46,7 +46,7 @@ module _ {X Y : Type 0} (test : ℕ × X → Bool) (f : ℕ × X → Y) where
   picked_no xs i d low miss = picked_more xs i d low
       ∙ ap (λ b. picked 0 (take i xs) ++ cond b (f (i, get_or xs i d) ∷ []) []) miss ∙ append-nil _
 
-  -- where a picked one comes from
+  -- where a picked one is from
   abbrev pub IsPick : ℕ → List X → Y → Type 0
   IsPick n xs y = (i : ℕ) × (i < length xs) × ((d : X) → (test (n + i, get_or xs i d) ≡ true) × (f (n + i, get_or xs i d) ≡ y))
 

@@ -1,5 +1,5 @@
 -- The turn of the driver's node on a board, from its waking to its Finish: the links that it reads,
--- and what it leaves alone.
+-- and what it does not change.
 -- Source: PipeWire's documentation, "Graph Scheduling" and "SPA Buffers"; the calls are this
 -- project's own.
 use Rattle.std.specs.Prelude.{◌≡◌, ◌≢◌, ℕ, ◌+◌, ◌<◌, true, length}
@@ -23,7 +23,7 @@ abbrev pub IsDriverRead : BoardLayout → View → ℕ → Type 0
 IsDriverRead p v c = (l : ℕ) → l < length p.shape.links → reader_of p l ≡ p.driver
     → IsReadUpTo v l c
 
--- no link comes to it
+-- no link leads to it
 abbrev pub HasNoLinkIn : BoardLayout → Type 0
 HasNoLinkIn p = (l : ℕ) → l < length p.shape.links → reader_of p l ≢ p.driver
 

@@ -1,4 +1,4 @@
--- What comes to the inputs of a node on a board whose samples are those of the cycle function.
+-- What the inputs of a node receive on a board whose samples are those of the cycle function.
 -- Source: PipeWire's documentation, "Graph Scheduling" and "SPA Buffers".
 use Rattle.std.specs.Prelude.{◌≡◌, ℕ, ◌<◌, ◌≤◌, ◌==◌, Bool, List, All, Some, map, filter, length}
 use Rattle.std.specs.List.{enumerate_from}

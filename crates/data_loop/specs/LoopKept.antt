@@ -1,5 +1,5 @@
 -- What the nodes of a loop keep, at any time and at the end of the run.
--- Source: this project's own: sinks keep the streams that come to them, meters their peaks.
+-- Source: this project's own: sinks keep the streams that they receive, meters their peaks.
 use Rattle.std.specs.Prelude.{◌≡◌, ◌≢◌, ℕ, ℤ, ◌<◌, List, length, slice_index_or}
 use Rattle.pw_graph.specs.KindFunction.{KindInputs}
 use Rattle.pw_graph.specs.Samples.{peak_of}

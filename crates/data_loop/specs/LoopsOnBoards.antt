@@ -19,8 +19,8 @@ use Rattle.data_loop.specs.Members.{follows, leads}
 use Rattle.data_loop.specs.Stages.{IsStanding}
 use Rattle.data_loop.specs.Loops.{HasStage, IsLoop, AreUnbegun, node_at, StateIs}
 
--- the cycle at which the state of a node stands that is no follower: the driver's after the cycles
--- that it led
+-- the next cycle of the state of a node that is no follower: the driver's next cycle, after the
+-- cycles that it has led
 abbrev pub stands_at : LoopState → Epoch → ℕ → ℕ
 stands_at s e j = e.shape.first + (if leads e (node_at s j) then s.led else 0)
 

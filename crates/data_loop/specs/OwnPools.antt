@@ -34,7 +34,7 @@ pub record AreFirstPools (shape : Shape) (nodes : List ℕ) (pools : List PoolSh
   pub shapes : own.shapes ≡ own_pools nodes pools
   pub free : own.free.items ≡ map (free_at_start shape) own.shapes
 
--- where the pool q stands among the own ones, and its free blocks; none of another's
+-- where the pool q is among the own ones, and its free blocks; none of another's
 abbrev pub place_of : OwnPools → ℕ → ℕ
 place_of own q = slice_index own.places q
 

@@ -59,7 +59,7 @@ pub(crate) fn play_driver<G: Gate>(
     finish(board, seat, driver);
 }
 
-/// The turn of a driver's node that is awake and is not processed, since no link comes to it: node
+/// The turn of a driver's node that is awake and is not processed, since no link leads to it: node
 /// 63, or one whose input has no form. Between its Start and its Finish only the gate is called.
 /// Takes no memory, does not wait.
 pub fn pass_driver<G: Gate>(board: &Board, seat: &mut DriverSeat, cycle: u32, gate: &G)

@@ -17,7 +17,7 @@ use board_rule::BoardSeat;
 use io_areas::read_input;
 use s16_mixer::clamp_out;
 
-// The link of a node that reads this one alone, at its first input.
+// The link of a node that reads only this one, at its first input.
 fn only_link(inputs: &[Input]) -> Option<u32>
     ensures { result ≡ only_link inputs.now }
 {
@@ -80,7 +80,7 @@ fn gather_in<S: BoardSeat>(
 }
 
 /// The node that works reads all its links: `a` and `b` of the rows then begin with what its inputs
-/// get in the cycle. One link alone is read straight into `a`, with no sum and no clamp. Takes no
+/// get in the cycle. A single link is read straight into `a`, with no sum and no clamp. Takes no
 /// memory, does not wait.
 pub(crate) fn gather<S: BoardSeat>(
     moment: &Moment<'_>,

@@ -10,7 +10,7 @@ use board_rule::{Board, BoardSeat};
 use io_areas::read_input;
 use s16_mixer::mix_into;
 
-/// A link that a node reads, by its number in the shape, and whether it comes to the node's second
+/// A link that a node reads, by its number in the shape, and whether it leads to the node's second
 /// input.
 #[derive(Clone, Copy, Debug, Drop)]
 pub(crate) struct Input {
@@ -18,7 +18,7 @@ pub(crate) struct Input {
     pub second: bool,
 }
 
-/// The node that works reads each of its links, and adds up what comes to each input. `row` is one
+/// The node that works reads each of its links, and adds up what each input receives. `row` is one
 /// quantum. Takes no memory, does not wait; one pass over the row for each link.
 pub(crate) fn read_inputs<S: BoardSeat>(
     board: &Board,

@@ -68,7 +68,7 @@ impl LoopState {
         place_in(self.nodes.as_slice(), node).is_some()
     }
 
-    /// The greatest absolute value that came to a meter of this loop so far, 0 to 32768. Takes no
+    /// The greatest absolute value that a meter of this loop received so far, 0 to 32768. Takes no
     /// memory.
     pub fn greatest(&self, node: u32) -> u32
         requires whole { IsLoop self.now }

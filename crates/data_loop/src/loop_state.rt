@@ -80,7 +80,7 @@ fn states_of(
 
 impl LoopState {
     /// The loop of these nodes, before the first epoch. `nodes` are places of the plan's nodes,
-    /// ascending, none twice. `seats` has one seat an epoch, in order; after `Memory` they are
+    /// ascending, no node twice. `seats` has one seat an epoch, in order; after `Memory` they are
     /// dropped. From then on no call takes memory.
     pub fn new(
         alloc: Global,

@@ -39,14 +39,14 @@ fn count_own(nodes: &[u32], pools: &[PoolShape]) -> u16
     count
 }
 
-// The place of an own pool is behind those before it, that of another behind all.
+// The place of an own pool is after those before it, that of another after all.
 fn place_for(own: bool, before: u16, count: u16) -> u16
     ensures { result ≡ (if own then before else count) }
 {
     if own { before } else { count }
 }
 
-// The place of each pool: how many of the nodes' own stand before it, or how many there are.
+// The place of each pool: how many of the nodes' own are before it, or how many there are.
 fn places_of(alloc: Global, nodes: &[u32], pools: &[PoolShape]) -> Result<Items<u16>, Memory>
     requires few { length pools.now ≤ links_limit }
     ensures { IfOk result (λ places. places ≡ own_places nodes.now pools.now) }

@@ -38,7 +38,7 @@ zip_push R [] (b ∷ ys) x y t r = absurd t
 zip_push R (a ∷ xs) [] x y t r = absurd t
 zip_push R (a ∷ xs) (b ∷ ys) x y t r = (t.0, zip_push R xs ys x y t.1 r)
 
--- more pairs behind
+-- more pairs after
 pub zip_append : {A B : Type 0} (R : A → B → Type 0) (xs : List A) (ys : List B) (vs : List A) (ws : List B) → AllZip R xs ys → AllZip R vs ws
     → AllZip R (xs ++ vs) (ys ++ ws)
 zip_append R [] [] vs ws t u = u

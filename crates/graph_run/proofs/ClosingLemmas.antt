@@ -1,4 +1,4 @@
--- Boards closed one after the other: what stands between two of them.
+-- Boards closed one after the other: what is between two of them.
 use Rattle.std.proofs.Common.{◌≡◌, ℕ, ◌+◌, List, [], ◌∷◌, ◌++◌, length, map, cond, refl, sym, ap, subst, ◌∙◌, append-nil, arith}
 use Rattle.std.specs.Prelude.{sum_by, count_by}
 use Rattle.std.specs.List.{AllZip, flat_map}

@@ -80,7 +80,7 @@ module _ (shared : Shared) (d : Driving) (l : Lists) (can : CanDrive shared d) (
           (covers n low);
     }
 
--- a loop that came through all epochs is done
+-- a loop that went through all epochs is done
 pub came : (boards : List Board) (s t : LoopState) → IsReady boards s → HasCome (length boards) s t → HasRun s t
 came boards s t ready come = record {
   done = (come.between, come.epoch ∙ (ready.boards_are.count ∙ ap (λ (x : Score). length x.plan.value.epochs) (sym come.score)));

@@ -1,5 +1,5 @@
 -- Which loop each node of a plan belongs to; and the cells of a plan, in which each node that never
--- drives is alone.
+-- drives is the only one.
 -- Source: PipeWire's documentation, "Data loops" (a node is run by one loop); which loop is this
 -- project's own.
 use Rattle.std.specs.Prelude.{ℕ, ◌%◌, ◌==◌, ◌||◌, not, Bool, List, map, count_by, length, slice_get, option_map, unwrap_or, take, if◌then◌else◌}
@@ -33,6 +33,6 @@ abbrev pub cell_count : Plan → ℕ
 cell_count plan = cells_before plan (length plan.nodes)
 
 -- THE CELL of a node, by its number: cells are numbered in the order of their nodes, and after the
--- last one comes the driver's own loop, to which each node belongs that drives in some epoch
+-- last one is the driver's own loop, to which each node belongs that drives in some epoch
 abbrev pub cell_number : Plan → ℕ → ℕ
 cell_number plan n = if drives_somewhere plan n then cell_count plan else cells_before plan n

@@ -23,7 +23,7 @@ pub record AreLoopsOf (plan : Plan) (waves : List WavIn) (f : ℕ → ℕ)
       (slice_index_or states i d)
 
 -- WITH THE SEATS of the plan's boards, each loop is ready to run on them, and the driver's own
--- alone has the drivers
+-- only it has the drivers
 abbrev pub AreReadyOnBoards : Plan → List WavIn → Seating → List (List Known)
     → List LoopState → Type 0
 AreReadyOnBoards plan waves seating rows states = (boards : List Board)

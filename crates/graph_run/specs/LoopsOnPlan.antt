@@ -1,5 +1,5 @@
 -- Loops with the boards of all epochs: what they and the drivers' seats are before a run, and how
--- far they have come.
+-- far they have got.
 -- Source: PipeWire's documentation, "Graph Scheduling" and "Data loops"; which loop has a node is
 -- this project's own.
 use Rattle.std.specs.Prelude.{◌≡◌, ◌⊎◌, ℕ, ◌+◌, ◌<◌, ◌≤◌, List, Some, All, Contains, length, slice_get, slice_index_or}
@@ -51,14 +51,14 @@ pub record AreFirstLeads (score : Score) (boards : List Board) (seats : List Kno
   pub each : (k : ℕ) (b : Board) (d : Known) → slice_get boards k ≡ Some b
       → IsFirstLead score k b (slice_index_or seats k d)
 
--- THE LOOPS of a plan, and last the driver's own, which alone has the drivers, before the run
+-- THE LOOPS of a plan, and last the driver's own, which has all drivers, before the run
 pub record AreReady (boards : List Board) (loops : ℕ) (states : List LoopState) : Type 0 where
   pub count : length states ≡ loops + 1
   pub each : All (IsReady boards) states
   pub without : (i : ℕ) (d : LoopState) → i < loops → HasNoDriver (slice_index_or states i d)
   pub own : (d : LoopState) → HasDrivers (slice_index_or states loops d)
 
--- THE WAY: from s the loop has come to t, before epoch k, and from k on it has what it had
+-- THE WAY: from s the loop has got to t, before epoch k, and from k on it has what it had
 pub record HasCome (k : ℕ) (s t : LoopState) : Type 0 where
   pub between : IsBetweenEpochs t
   pub epoch : t.epoch ≡ k

@@ -1,5 +1,5 @@
 -- The loops of a run after its last epoch: all nodes of the plan are theirs.
--- Source: this project's own: sinks keep the streams that come to them, meters their peaks.
+-- Source: this project's own: sinks keep the streams that they receive, meters their peaks.
 use Rattle.std.specs.Prelude.{◌≡◌, ℕ, ◌<◌, ◌≤◌, List, All, Contains, length, slice_index_or}
 use Rattle.pw_graph.specs.declared.plan.Plan.{Plan}
 use Rattle.wav_files.specs.declared.wav.WavIn.{WavIn}

@@ -17,9 +17,9 @@ pub(crate) fn drives_somewhere(plan: &Plan, node: u32) -> bool
         .any(|epoch| epoch.shape.driver == node)
 }
 
-/// The loop of a node, of `loops` loops that are numbered from 0: `loops` itself stands for the
-/// driver's own, to which each node belongs that drives in some epoch, and every node where there
-/// is no other. Each other node belongs to the loop of its number `k`, modulo `loops`.
+/// The loop of a node, of `loops` loops that are numbered from 0. The number `loops` is the driver
+/// thread's own loop. It has every node that ever drives, and all nodes if there is no other loop.
+/// Each other node belongs to the loop of its number `k`, modulo `loops`.
 ///
 /// Takes no memory; one pass over the epochs.
 pub fn loop_of(plan: &Plan, loops: u32, node: u32) -> u32

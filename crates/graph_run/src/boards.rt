@@ -68,7 +68,7 @@ fn board_with<E: Expect>(
     Ok(made)
 }
 
-// The board of an epoch: what a call names can depend on the arguments of that call alone.
+// The board of an epoch: what a call names can depend on the arguments of that call only.
 fn board_of(
     alloc: Global,
     plan: &Plan,

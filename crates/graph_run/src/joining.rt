@@ -10,7 +10,7 @@ use pw_outside::Gate;
 use std::sync::Wait;
 use std::thread::Threads;
 
-// Joins a loop's thread. A loop that came back too early is run here.
+// Joins a loop's thread. A loop that was handed back too early is run here.
 fn join_one<R: Threads + Wait + Sync, G: Gate>(
     rt: &R,
     gate: &G,
@@ -45,7 +45,7 @@ pub(crate) fn join_all<R: Threads + Wait + Sync, G: Gate>(
     }
 }
 
-// Puts the driver's own loop and the adopted ones behind those that are done. Takes no memory.
+// Puts the driver's own loop and the adopted ones after those that are done. Takes no memory.
 pub(crate) fn append_all(done: &mut Room<LoopState>, own: LoopState, adopted: Items<LoopState>)
     requires { length adopted < done.old.spare }
     ensures list { done.new.list ≡ done.old.list ++ own ∷ adopted }

@@ -3,7 +3,7 @@
 //!
 //! A plan of epochs is run on one board an epoch. `boards_of` makes them all before the first
 //! cycle, each with the samples of the cycle function as what it has to give. `run_plan` starts
-//! each loop once, in a thread of its own, and drives; a loop that it was told to adopt, or whose
+//! each loop once, in a thread of its own, and drives; a loop that it was asked to adopt, or whose
 //! start is refused, is run by the driver's thread. `close_all` ends the boards and answers one
 //! legal history.
 #![tactic(auto)]

@@ -58,7 +58,7 @@ pub fn loops_of(
         (AreLoopsOf plan.now waves.now (holder_of seating.now)
         (map (λ row. row.list) seats.items)) }
     // With the seats of the plan's boards, each loop is ready to run on them, and the driver's own
-    // alone has the drivers.
+    // has all drivers.
     ensures ready { IfOk result
         (AreReadyOnBoards plan.now waves.now seating.now (map (λ row. row.list) seats.items)) }
 {

@@ -82,7 +82,7 @@ fn run_unless<R: Wait, G: Gate>(
     Ok(run_loop(rt, gate, shared, given))
 }
 
-// A loop whose start was refused comes back as it was, and is adopted.
+// A loop whose start was refused is handed back as it was, and is adopted.
 fn not_started(back: Result<LoopState, LoopWay>) -> Start
     ensures { (given : _) → Returns given back → IsStart false given result }
 {
@@ -92,7 +92,7 @@ fn not_started(back: Result<LoopState, LoopWay>) -> Start
     }
 }
 
-// Starts one loop. Where the start is refused the loop comes back, and is adopted.
+// Starts one loop. Where the start is refused the loop is handed back, and is adopted.
 fn start_one<'s, E, R: Threads + Wait + Sync, G: Gate + Sync, S: Starts>(
     rt: &'s R,
     gate: &'s G,

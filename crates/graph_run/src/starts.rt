@@ -1,6 +1,6 @@
 //! Whose start is refused, beside those that the system refuses.
 
-/// Tells of each loop that is to be started whether its start is refused, as by a system that can
+/// Says of each loop that is to be started whether its start is refused, as by a system that can
 /// make no thread more. So a run can be tried with refused starts.
 pub trait Starts {
     /// Whether the start of the loop of this number is refused.

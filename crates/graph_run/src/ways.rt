@@ -13,8 +13,8 @@ use pw_lists::{Items, Memory};
 use std::alloc::Global;
 
 /// The queues of a plan's loops, the way of the driver's thread, and those of the loops in their
-/// order: a node's number comes to the queue of the loop that the node belongs to. At most 63 nodes
-/// and 16 loops.
+/// order: a node's number is sent to the queue of the loop that the node belongs to. At most 63
+/// nodes and 16 loops.
 pub fn ways_of(alloc: Global, plan: &Plan, loops: u32) -> Result<(Ways, Way, Items<Way>), Memory>
     requires nodes { length plan.now.nodes ≤ nodes_limit }
     requires few { loops ≤ loops_limit }

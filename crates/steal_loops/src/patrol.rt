@@ -1,4 +1,4 @@
-//! What the driver's thread goes through the cells with, and how it waits.
+//! The driver thread's scan over the cells, and how it waits.
 ghost use Rattle.std.specs.Prelude.{◌≡◌};
 ghost use Rattle.steal_loops.specs.working.Cells.{AreCells};
 ghost use Rattle.steal_loops.specs.working.Takers.{IsPatrol};

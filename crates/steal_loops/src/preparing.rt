@@ -58,7 +58,7 @@ pub(crate) struct Prepared {
 }
 
 /// What a run of a plan by `loops` workers begins with: boards, cells and queues. Each node that
-/// never drives has a cell of its own; a node's number comes to the queue of the worker of its
+/// never drives has a cell of its own; a node's number is sent to the queue of the worker of its
 /// number, modulo the number of workers.
 pub(crate) fn prepare(
     alloc: Global,

@@ -9,7 +9,7 @@ use crate::visiting::{has_done, visit};
 use pw_outside::Gate;
 use std::sync::Wait;
 
-/// Visits the cell behind the last, unless there is none or it was found at its end. Whether the
+/// Visits the cell after the last, unless there is none or it was found at its end. Whether the
 /// visit did something. It may wait where it sends. Takes no memory.
 pub(crate) fn visit_next<R: Wait, G: Gate>(
     rt: &R,

@@ -82,7 +82,7 @@ fn run_within<'s, E, R: Threads + Wait + Sync, G: Gate + Sync, K: Ticker, S: Sta
     }
 }
 
-// All epochs by all threads. The ticker comes back with what it has counted.
+// All epochs by all threads. The ticker is handed back with what it has counted.
 fn run_scoped<'t, R: Threads + Wait + Sync, G: Gate + Sync, K: Ticker, S: Starts>(
     rt: &R,
     gate: &G,

@@ -104,7 +104,7 @@ pub(crate) fn start_all<'s, E, R: Threads + Wait + Sync, G: Gate + Sync, S: Star
     }
 }
 
-/// Joins all workers: how many numbers they took out of their queues in all. No clause tells how
+/// Joins all workers: how many numbers they took out of their queues in all. No clause says how
 /// many. Takes no memory.
 pub(crate) fn join_all<R: Threads>(rt: &R, handles: Items<WorkerHandle>) -> u64 {
     let mut taken = 0u64;

@@ -22,7 +22,7 @@ use wav_files::{Outcome, WavIn};
 
 /// Runs a plan as `run_stealing` does, by the workers of the roster, which refuses starts of its
 /// own. It answers the same, and how many numbers the workers took out of their queues in all, of
-/// which no clause tells anything.
+/// which no clause says anything.
 pub fn run_stealing_with<R: Threads + Wait + Sync, G: Gate + Sync, K: Ticker, S: Starts>(
     rt: &R,
     alloc: Global,

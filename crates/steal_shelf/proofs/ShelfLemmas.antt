@@ -224,7 +224,7 @@ module _ (made : List LoopState) where
             (h.each i c e);
       }
 
--- what a try tells that found 0
+-- what a seat learns by a try that found 0
 pub found_zero : (i : ℕ) (me : ShelfMe) (n : ℕ) (m : ShelfMe) → n ≡ 0 → HasTried i me n m
     → (m.0 ≡ taken me.0) × (me.0.has ≡ false) × ((s : LoopState) × (m.1 ≡ (i, Some s) ∷ me.1) × IsCellOf me.0 s)
 found_zero i me n m e h = subst (λ k. HasTried i me k m) e h

@@ -7,7 +7,7 @@ use crate::token::{fetch_token, put_token};
 use data_loop::LoopState;
 
 impl Shelf {
-    /// One try of a cell: the loop of its node, where it stands on its way through the boards. None
+    /// One try of a cell: the loop of its node, where it is on its way through the boards. None
     /// exactly where the one exchange of this call found the cell out, also where it is with this
     /// seat; then the seat knows one more try of it. Takes no memory, does not wait.
     /// Condition: the seat is this shelf's, and there is such a cell.

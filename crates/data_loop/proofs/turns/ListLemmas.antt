@@ -23,7 +23,7 @@ module _ (xs : List ℕ) (k : ℕ) where
   pub still_taken : (x : ℕ) → k < length xs → Contains (take k xs) x → Contains (take (k + 1) xs) x
   still_taken x h c = subst (λ ys. Contains ys x) (sym (taken_more xs k h)) (Contains-append_left (take k xs) (get_or xs k 0 ∷ []) x c)
 
-  -- where no element stands twice, an early one is another than the next
+  -- where no element is there twice, an early one is another than the next
   pub early_differs : AllPairs (λ x y. x ≢ y) xs → k < length xs → Contains (take k xs) (get_or xs k 0) → ⊥
   early_differs differ h c = let at = c.0 in let in_range = c.1 in let long = length-take-le k xs (omega arith) in
       let low : at < k = omega arith in

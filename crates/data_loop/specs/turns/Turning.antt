@@ -1,5 +1,5 @@
--- The turn of a follower, from its waking to its rest: its links, its pools, what it leaves alone.
--- Nodes are indexes.
+-- The turn of a follower, from its waking to its rest: its links, its pools, what it does not
+-- change. Nodes are indexes.
 -- Source: PipeWire's documentation, "Graph Scheduling" and "SPA Buffers"; the calls are this
 -- project's own.
 use Rattle.std.specs.Prelude.{◌≡◌, ◌≢◌, ℕ, ◌+◌, ◌<◌, ◌≤◌, false, length, slice_index_or}

@@ -16,7 +16,7 @@ IsZero s = s ≡ pos 0
 abbrev pub links_of : List Input → List ℕ
 links_of inputs = map (λ i. i.link) inputs
 
--- the link of a node that reads this one alone, at its first input
+-- the link of a node that reads only this one, at its first input
 abbrev pub only_link : List Input → Option ℕ
 only_link [] = None
 only_link (i ∷ []) = if not i.second then Some i.link else None
@@ -26,7 +26,7 @@ only_link (i ∷ j ∷ inputs) = None
 abbrev pub row_of : Bool → BoardLayout → View → ℕ → List ℤ
 row_of is_driver p v l = reading.brought is_driver p v l
 
--- what comes to the first input, and to the second
+-- what the first input receives, and the second
 abbrev pub first_rows : Bool → BoardLayout → View → List Input → List (List ℤ)
 first_rows is_driver p v inputs = map (λ i. row_of is_driver p v i.link)
     (filter (λ i. not i.second) inputs)
@@ -35,7 +35,7 @@ abbrev pub second_rows : Bool → BoardLayout → View → List Input → List (
 second_rows is_driver p v inputs = map (λ i. row_of is_driver p v i.link)
     (filter (λ i. i.second) inputs)
 
--- a quantum of each link has n samples; the second input is as wide, if a link comes to it
+-- a quantum of each link has n samples; the second input is as wide, if a link leads to it
 abbrev pub AreLong : BoardLayout → ℕ → List Input → Type 0
 AreLong p n inputs = All (λ i. n ≡ quantum_of p (pool_of p i.link)) inputs
 

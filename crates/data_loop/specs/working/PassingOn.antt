@@ -1,5 +1,5 @@
 -- What a loop's thread does with its way: it passes on what a turn or a try woke, and rests only
--- where none was awake.
+-- where no node was awake.
 -- Source: PipeWire's documentation, "Graph Scheduling" and "Data loops"; that what is woken goes
 -- through queues is this project's own.
 use Rattle.std.specs.Prelude.{◌≡◌, ◌⊎◌, ℕ, Bool, true, false}
@@ -14,7 +14,7 @@ use Rattle.data_loop.specs.LoopsOnBoards.{HasTurnedOnce}
 use Rattle.data_loop.specs.LoopTries.{HasWoken}
 use Rattle.data_loop.specs.LoopWay.{RestsAtMost}
 
--- each node of the set came to its loop, whose thread was unparked, unless it is the way's own
+-- each node of the set was sent to its loop, whose thread was unparked, unless it is the way's own
 abbrev pub Forwards : Ways → ℕ → Way → Way → Type 0
 Forwards ways woke a b = (full : ℕ) × HasForwarded ways.owner ways.loops woke full a b
 

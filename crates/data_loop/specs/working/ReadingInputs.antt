@@ -8,7 +8,7 @@ use Rattle.board_rule.specs.buffers.ReaderSteps.{read_cycle}
 use Rattle.io_areas.specs.Ends.{IsReadUpTo}
 use Rattle.io_areas.specs.InputTurn.{MayReadInput}
 
--- none of the links is touched in this cycle, and none stands there twice
+-- no link is touched in this cycle, and no link is there twice
 abbrev pub MayReadAll : Bool → BoardLayout → View → List ℕ → Type 0
 MayReadAll is_driver p v links = All (MayReadInput is_driver p v) links
     × AllPairs (λ k l. k ≢ l) links

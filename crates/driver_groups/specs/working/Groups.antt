@@ -34,7 +34,7 @@ IsStart given (Done e) = HasRunAlone given e
 abbrev pub HasBegun : Start → Type 0
 HasBegun start = (given : AloneRun) × IsStart given start
 
--- of all that were started, the runs in the end, behind those that were there
+-- of all that were started, the runs in the end, after those that were there
 abbrev pub AreStarted : List Start → List EndedRun → List EndedRun → Type 0
 AreStarted starts old new = (more : List EndedRun) × (new ≡ old ++ more)
     × ((runs : List AloneRun) → AllZip IsStart runs starts → AllZip HasRunAlone runs more)

@@ -1,4 +1,4 @@
--- What a step of the shelf tells its seat.
+-- What a seat learns by a step of the shelf.
 -- Source: this project's own.
 use Rattle.std.specs.Prelude.{◌≡◌, ℕ, zero, suc, ◌+◌, true, false, ◌∷◌, Option, Some, slice_get}
 use Rattle.atomic_table.specs.Table.{Me, rest}

@@ -1,4 +1,4 @@
--- The tokens of a new seat: one of each cell, none of which has its turn.
+-- The tokens of a new seat: one of each cell, no token of which has its turn.
 -- Source: this project's own.
 use Rattle.std.specs.Prelude.{◌≡◌, ℕ, ◌<◌, [], length, slice_index_or}
 use Rattle.atomic_table.specs.Seated.{TableId}
