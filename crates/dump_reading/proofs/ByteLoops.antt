@@ -2,7 +2,7 @@
 use Rattle.std.proofs.Common.{◌≡◌, ℕ, List, [], ◌∷◌, ◌++◌, refl, sym, ap, append_assoc, append-nil}
 use Rattle.std.specs.Prelude.{Option, Some, None, option_map}
 
--- what is still to come, behind what was read
+-- what is still to come, after what was read
 abbrev pub behind : List ℕ → Option (List ℕ) → Option (List ℕ)
 behind bytes rest = option_map (λ bs. bytes ++ bs) rest
 

@@ -99,7 +99,7 @@ pub double_back : (n : ℕ) → n < 2 ^ 64 → double_said (hex (to_be_bytes w64
 unfolding double_said
 double_back n h = ap (option_and_then eight_said) (hex_back (to_be_bytes w64 n) (eight_bytes n h)) ∙ ap Some (from_be_bytes-to_be_bytes_8 n h)
 
--- what stands between quotes
+-- what is between quotes
 pub quotes_back : (inner : List ℕ) → is_free 34 inner ≡ true → unquoted (34 ∷ (inner ++ 34 ∷ [])) ≡ Some inner
 unfolding unquoted
 quotes_back inner h = ap inner_of (cut_back 34 inner [] h)

@@ -58,7 +58,7 @@ pub number_back : (n : ℕ) → n < 2 ^ 32 → number_said (decimal n) ≡ Some 
 unfolding number_said
 number_back n h = number_of-decimal 0 4294967295 n (omega arith) (omega arith) (omega arith)
 
--- a mark that is no digit stands in no number
+-- a mark that is no digit is in no number
 pub free_of : (mark n : ℕ) → n < 2 ^ 64 → ((d : ℕ) → 48 ≤ d → d ≤ 57 → d ≡ mark → ⊥) → is_free mark (decimal n) ≡ true
 free_of mark n small other = decimal_by_steps (λ m ds. is_free mark ds ≡ true)
     (λ m l. alone (48 + m) (omega arith) (omega arith))

@@ -1,4 +1,4 @@
--- A value that is written is read back, whatever stands behind it.
+-- A value that is written is read back, whatever follows.
 use Rattle.std.proofs.Common.{◌≡◌, ℕ, zero, suc, ◌+◌, ◌-◌, ◌*◌, ◌^◌, ◌<◌, ◌==◌, true, List, [], ◌∷◌, ◌++◌, length, map}
 use Rattle.std.proofs.Common.{refl, sym, ap, ◌∙◌, arith, append_assoc, append-nil, decimal, replicate}
 use Rattle.std.specs.Prelude.{Option, Some, None, option_map, codes, bytes_eq}
@@ -30,7 +30,7 @@ use Rattle.dump_reading.proofs.NumberLemmas.{pair_back, space_other, free_number
 use Rattle.dump_reading.proofs.HeadLemmas.{lines_at, lines_out, headed, head_back, head_free}
 use Rattle.dump_reading.proofs.ManyLemmas.{many_back}
 
--- the first line, and what stands behind it
+-- the first line, and what is after it
 first_line : (level : ℕ) (l : Lines) (more : List ℕ) → is_free 10 l.head ≡ true
     → line_said level (text_at level l ++ more) ≡ Some (l.head, l.held (level + 1) ++ more)
 first_line level l more h =

@@ -18,7 +18,7 @@ IsReadBack pod (Ok read) = read ≡ pod
 IsReadBack pod (Err F.Memory) = Unit {0}
 IsReadBack pod (Err (F.Line number why)) = ⊥
 
--- of a stop at a line a fault of a line is told
+-- of a stop at a line a fault of a line is reported
 abbrev pub IsToldAs : Stop → DumpFault → Type 0
 IsToldAs S.Memory fault = fault ≡ F.Memory
 IsToldAs (S.Line left why) F.Memory = ⊥

@@ -1,4 +1,4 @@
--- The value that lines say, read from the first line on: a line at its level, and what stands a
+-- The value that lines say, read from the first line on: a line at its level, and what is a
 -- level deeper under it. The lines are those of the dump. Source: this project's own.
 use Rattle.std.specs.Prelude.{ℕ, zero, suc, ◌+◌, ◌==◌, ◌&&◌, ◌||◌, nat_lt, Bool, if◌then◌else◌, List, [], length}
 use Rattle.std.specs.Prelude.{Option, Some, None, option_map}
@@ -31,7 +31,7 @@ element_said child level text = element_line child (line_said level text)
 abbrev pub may_hold : ℕ → ℕ → Bool
 may_hold child n = nat_lt 0 (child_size child) || ((child == 1) && (n == 0))
 
--- what a head holds, in the lines behind it, where values are read by this
+-- what a head holds, in the lines after it, where values are read by this
 unfoldable pub held_said : (ℕ → List ℕ → Option (Pod × List ℕ)) → ℕ → Head
     → List ℕ → Option (Pod × List ℕ)
 held_said read level (H.Leaf pod) text = Some (pod, text)

@@ -99,7 +99,7 @@ pub(crate) fn double_said(alloc: Global, digits: &[u8]) -> Result<Option<u64>, M
     }
 }
 
-/// What stands between two quotes, of which the second ends the text.
+/// What is between two quotes, of which the second ends the text.
 #[tactic(auto, unfolding(crate::specs::working::Bytes::unquoted))]
 pub(crate) fn unquoted(args: &[u8]) -> Option<&[u8]>
     ensures { option_copied result ≡ unquoted args.now }

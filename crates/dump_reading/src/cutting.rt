@@ -3,7 +3,7 @@ ghost use Rattle.std.specs.Prelude.{◌≡◌, ◌==◌, ◌≤◌, length, None
 ghost use Rattle.std.specs.List.{list_all};
 ghost use Rattle.dump_reading.specs.working.Cutting.{front_len, cut_at, behind_spaces};
 
-// How many bytes stand before the first mark.
+// How many bytes are before the first mark.
 fn front_len(text: &[u8], mark: u8) -> usize
     ensures value { result ≡ front_len mark text.now }
     ensures within { result ≤ length text.now }
@@ -11,7 +11,7 @@ fn front_len(text: &[u8], mark: u8) -> usize
     text.iter().take_while(|b| **b != mark).count()
 }
 
-/// What stands before the first mark of a text, and behind it; nothing where it has none. Takes no
+/// What is before the first mark of a text, and after it; nothing where it has none. Takes no
 /// memory.
 #[tactic(auto, unfolding(crate::specs::working::Cutting::cut_at))]
 pub(crate) fn cut(text: &[u8], mark: u8) -> Option<(&[u8], &[u8])>
@@ -31,7 +31,7 @@ fn all_spaces(bytes: &[u8]) -> bool
     bytes.iter().all(|b| *b == b' ')
 }
 
-/// What stands behind the first `spaces` spaces of a line; nothing where it has fewer. Takes no
+/// What is after the first `spaces` spaces of a line; nothing where it has fewer. Takes no
 /// memory.
 #[tactic(auto, unfolding(crate::specs::working::Cutting::behind_spaces))]
 pub(crate) fn behind_spaces(line: &[u8], spaces: usize) -> Option<&[u8]>

@@ -18,7 +18,7 @@ pub(crate) fn may_hold(child: u32, count: u32) -> bool
     matches!(child, 2..=7 | 10 | 11 | 18) || (child == 1 && count == 0)
 }
 
-// A value of this child type that holds no others, and the lines behind it.
+// A value of this child type that holds no others, and the lines after it.
 #[tactic(auto, unfolding(crate::specs::Values::element_said))]
 fn element_said(alloc: Global, text: &[u8], level: usize, child: u32) -> Result<(Pod, &[u8]), Stop>
     requires { level ≤ MOST_LEVELS }
@@ -41,7 +41,7 @@ fn element_said(alloc: Global, text: &[u8], level: usize, child: u32) -> Result<
     }
 }
 
-/// `count` values of a child type, and the lines behind them.
+/// `count` values of a child type, and the lines after them.
 pub(crate) fn elements_said(
     alloc: Global,
     text: &[u8],

@@ -8,19 +8,19 @@ use pw_lists::Memory;
 /// What is wrong with a line, in the order in which it is looked for.
 #[derive(Clone, Copy, Debug, PartialEq, Eq, Drop)]
 pub enum DumpWhy {
-    /// A value would stand more than 16 deep.
+    /// A value would be more than 16 deep.
     Deep,
-    /// The text ends where a line should stand.
+    /// The text ends where a line should be.
     Missing,
     /// The line is not ended by a line feed.
     Unended,
     /// It is indented by less than two spaces a level.
     Indent,
-    /// Its words are none of a value, a property or a control, as it should stand here.
+    /// Its words are not those of a value, a property or a control, as should be here.
     Words,
     /// No array or choice may hold this child type, or the value is of another type.
     Child,
-    /// It stands behind the value.
+    /// It is after the value.
     More,
 }
 

@@ -232,7 +232,7 @@ fn bitmap_head(alloc: Global, args: &[u8]) -> Result<Option<Head>, Memory>
     }
 }
 
-// What stands behind the name of a value.
+// What is after the name of a value.
 fn args_said(alloc: Global, name: Name, args: &[u8]) -> Result<Option<Head>, Memory>
     ensures { IfOk result (λ head. head ≡ args_said name args.now) }
 {
@@ -257,7 +257,7 @@ fn args_said(alloc: Global, name: Name, args: &[u8]) -> Result<Option<Head>, Mem
     }
 }
 
-/// What the words of a line say of a value; nothing where they are none of a value.
+/// What the words of a line say of a value; nothing where they are not those of a value.
 #[tactic(auto, unfolding(crate::specs::working::Heads::head_said))]
 pub(crate) fn head_said(alloc: Global, words: &[u8]) -> Result<Option<Head>, Memory>
     ensures { IfOk result (λ head. head ≡ head_said words.now) }

@@ -29,7 +29,7 @@ fn unended(text: &[u8]) -> DumpWhy {
     }
 }
 
-/// The words of the first line, at a level, and the lines behind it. Takes no memory.
+/// The words of the first line, at a level, and the lines after it. Takes no memory.
 #[tactic(auto, unfolding(crate::specs::working::Lines::line_said))]
 pub(crate) fn line_said(text: &[u8], level: usize) -> Result<(&[u8], &[u8]), DumpWhy>
     requires { level ≤ MOST_LEVELS }
@@ -45,7 +45,7 @@ pub(crate) fn line_said(text: &[u8], level: usize) -> Result<(&[u8], &[u8]), Dum
     }
 }
 
-/// Of words that are wrong: that they are indented too far, or that they are none.
+/// Of words that are wrong: that they are indented too far, or that they are not known.
 pub(crate) fn wrong_words(words: &[u8]) -> DumpWhy {
     match words {
         [b' ', ..] => DumpWhy::Indent,
@@ -53,7 +53,7 @@ pub(crate) fn wrong_words(words: &[u8]) -> DumpWhy {
     }
 }
 
-// The two numbers behind a word.
+// The two numbers after a word.
 #[tactic(auto, unfolding(crate::specs::working::Keyed::numbers_said))]
 fn numbers_said(word: &[u8], words: &[u8]) -> Option<(u32, u32)>
     ensures { result ≡ numbers_said word.now words.now }
@@ -70,7 +70,7 @@ fn numbers_said(word: &[u8], words: &[u8]) -> Option<(u32, u32)>
     }
 }
 
-/// The two numbers of a line that begins with a word, and the lines behind it.
+/// The two numbers of a line that begins with a word, and the lines after it.
 #[tactic(auto, unfolding(crate::specs::working::Keyed::keyed_said))]
 pub(crate) fn keyed_said<'a>(
     word: &[u8],

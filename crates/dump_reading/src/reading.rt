@@ -13,7 +13,7 @@ use crate::values::value_said;
 use pod_codec::{Pod, dump_text};
 use std::alloc::Global;
 
-/// The levels that values may stand deep.
+/// The levels that values may be deep.
 const DEPTH: u32 = 16;
 
 // The value of a whole text.
@@ -66,11 +66,11 @@ fn misspelled(text: &[u8], dumped: &[u8]) -> DumpFault {
     }
 }
 
-/// The value whose dump a text is, or why it is none.
+/// The value whose dump a text is, or why it is no dump.
 ///
 /// A text is that of `dump_text`, byte for byte: one value a line, two spaces of indent a level,
 /// each line ended by a line feed. Its lines are read in order, and the first that cannot be read
-/// is told, with what is wrong with it. Takes memory for the value and for its text, and time
+/// is reported, with what is wrong with it. Takes memory for the value and for its text, and time
 /// linear in the text.
 pub fn read_dump(alloc: Global, text: &[u8]) -> Result<Pod, DumpFault>
     ensures found { IfOk result (λ pod. dump_text_of pod ≡ text.now) }

@@ -8,7 +8,7 @@ use crate::bytes::{digit_said, unquoted};
 use pw_lists::{Items, Memory, Text};
 use std::alloc::Global;
 
-/// Where a string stands: outside of an escape, behind its backslash, behind its `x`, or behind its
+/// Where a string is: outside of an escape, after its backslash, after its `x`, or after its
 /// first digit.
 #[derive(Clone, Copy, Debug, PartialEq, Eq, Drop)]
 pub(crate) enum Escape {
@@ -39,7 +39,7 @@ fn outside(b: u8) -> Option<(Escape, Option<u8>)>
     }
 }
 
-// Behind a backslash.
+// After a backslash.
 fn behind_slash(b: u8) -> Option<(Escape, Option<u8>)>
     ensures said { result ≡ step Escape.Slash b }
     ensures sound { IfSome result (λ n. IsEscape n.0) }
@@ -51,7 +51,7 @@ fn behind_slash(b: u8) -> Option<(Escape, Option<u8>)>
     }
 }
 
-// Behind `\x`.
+// After `\x`.
 fn behind_mark(b: u8) -> Option<(Escape, Option<u8>)>
     ensures said { result ≡ step Escape.Mark b }
     ensures sound { IfSome result (λ n. IsEscape n.0) }
@@ -62,7 +62,7 @@ fn behind_mark(b: u8) -> Option<(Escape, Option<u8>)>
     }
 }
 
-// Behind the first digit.
+// After the first digit.
 fn behind_high(high: u8, b: u8) -> Option<(Escape, Option<u8>)>
     requires { high < 16 }
     ensures said { result ≡ step (Escape.High high) b }
@@ -81,7 +81,7 @@ fn behind_high(high: u8, b: u8) -> Option<(Escape, Option<u8>)>
     }
 }
 
-// The next byte: where the string stands behind it, and the byte that is whole with it.
+// The next byte: where the string is after it, and the byte that is whole with it.
 fn step(state: Escape, b: u8) -> Option<(Escape, Option<u8>)>
     requires { IsEscape state }
     ensures said { result ≡ step state b }
@@ -105,7 +105,7 @@ fn push_byte(bytes: &mut Text, byte: Option<u8>) -> Result<(), Memory>
     }
 }
 
-/// The bytes of a string; nothing where the text is none.
+/// The bytes of a string; nothing where the text is no string.
 #[tactic(auto, unfolding(crate::specs::working::Strings::string_said))]
 fn string_said(alloc: Global, text: &[u8]) -> Result<Option<Text>, Memory>
     ensures { IfOk result (λ bytes. bytes ≡ string_said text.now) }

@@ -14,7 +14,7 @@ use pod_codec::{ChoiceKind, Control, Pod, Prop};
 use pw_lists::Items;
 use std::alloc::Global;
 
-/// The value at a level, with `left` levels of values left, and the lines behind it.
+/// The value at a level, with `left` levels of values left, and the lines after it.
 #[cycle(read_dump)]
 pub(crate) fn value_said(
     alloc: Global,
@@ -206,7 +206,7 @@ fn sequence_said(
     }
 }
 
-// `count` values, and the lines behind them.
+// `count` values, and the lines after them.
 #[cycle(read_dump)]
 fn values_said(
     alloc: Global,
@@ -244,7 +244,7 @@ fn prop_of(numbers: (u32, u32), value: Pod) -> Prop
     }
 }
 
-// A property, and the lines behind it.
+// A property, and the lines after it.
 #[cycle(read_dump)]
 #[tactic(auto, unfolding(crate::specs::working::Keyed::prop_said))]
 fn prop_said(alloc: Global, text: &[u8], level: usize, left: u32) -> Result<(Prop, &[u8]), Stop>
@@ -260,7 +260,7 @@ fn prop_said(alloc: Global, text: &[u8], level: usize, left: u32) -> Result<(Pro
     }
 }
 
-// `count` properties, and the lines behind them.
+// `count` properties, and the lines after them.
 #[cycle(read_dump)]
 fn props_said(
     alloc: Global,
@@ -298,7 +298,7 @@ fn control_of(numbers: (u32, u32), value: Pod) -> Control
     }
 }
 
-// A control, and the lines behind it.
+// A control, and the lines after it.
 #[cycle(read_dump)]
 #[tactic(auto, unfolding(crate::specs::working::Keyed::control_said))]
 fn control_said(
@@ -320,7 +320,7 @@ fn control_said(
     }
 }
 
-// `count` controls, and the lines behind them.
+// `count` controls, and the lines after them.
 #[cycle(read_dump)]
 fn controls_said(
     alloc: Global,

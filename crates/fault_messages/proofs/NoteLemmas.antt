@@ -6,7 +6,7 @@ use Rattle.std.proofs.lemmas.List.{append-nil, append_assoc}
 use Rattle.fault_messages.specs.LinkNotes.{link_part, told_behind, link_notes}
 use Rattle.fault_messages.specs.SinkNotes.{sink_part, sink_notes}
 
--- behind a text come the notes of the first line, then those of the others
+-- after a text are the notes of the first line, then those of the others
 pub more_links : (words : List (List ℕ)) (n : ℕ) (line told text : List ℕ) (all lines : List (List ℕ))
     → all ≡ line ∷ lines → text ++ link_notes words n all told
     ≡ text ++ link_part words n line told ++ link_notes words (n + 1) lines (told_behind line told)

@@ -1,4 +1,4 @@
--- The first byte of a line that no script may have: its value, and the column that it stands in,
+-- The first byte of a line that no script may have: its value, and the column that it is in,
 -- counted in bytes from 1. Source: this project's own.
 use Rattle.std.specs.Prelude.{ℕ, ◌+◌, List, ◌++◌, codes, decimal, slice_index_or}
 use Rattle.std.specs.List.{prefix_len}

@@ -12,7 +12,7 @@ key_name key =
     else (if key == 65540 then Some (codes "channels")
     else (if key == 65541 then Some (codes "position") else None))))))
 
--- behind the number of a key
+-- after the number of a key
 abbrev pub name_part : Option (List ℕ) → List ℕ
 name_part None = []
 name_part (Some name) = codes " (" ++ (name ++ codes ")")

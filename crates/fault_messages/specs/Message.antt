@@ -1,4 +1,4 @@
--- The sentence that a status is told in, for people. Source: this project's own.
+-- The sentence that a status is printed as, for people. Source: this project's own.
 use Rattle.std.specs.Prelude.{ℕ, ◌==◌, ◌||◌, Bool, false, bytes_eq, nat_lt, if◌then◌else◌, List, [], ◌++◌, length, codes, decimal, Option, Some, None}
 use Rattle.pw_top.specs.declared.status.Status.{Status}
 use Rattle.pw_top.specs.declared.status.Status.TheVariants as S
@@ -53,7 +53,7 @@ abbrev pub asks_help : Status → List (List ℕ) → Bool
 asks_help (S.Usage i) words = is_help_word (word words 0)
 asks_help _ words = false
 
--- what stands before it, and what follows
+-- what is before it, and what follows
 abbrev pub before : Status → List ℕ
 before S.Ok = []
 before _ = codes "pipegraph: "

@@ -9,7 +9,7 @@ use Rattle.fault_messages.specs.Places.{word}
 abbrev pub is_pair : List (List ℕ) → Bool
 is_pair ws = bytes_eq (word ws 0) (codes "link") || bytes_eq (word ws 0) (codes "unlink")
 
--- an end: a name, one dot and a port; where its first dot stands, and what is before and behind it
+-- an end: a name, one dot and a port; where its first dot is, and what is before and after it
 abbrev pub dot_place : List ℕ → ℕ
 dot_place w = position_or_len is_dot w
 

@@ -1,6 +1,6 @@
--- The command that is meant by a word that is none: the first within one letter, or, for words of
--- at least four letters, within two. Source: distances are Levenshtein's; the choice is this
--- project's own.
+-- The command that is meant by a word that is no command: the first within one letter, or, for
+-- words of at least four letters, within two. Source: distances are Levenshtein's; the choice is
+-- this project's own.
 use Rattle.std.specs.Prelude.{ℕ, List, codes, length, nat_le, Option, Some, None, if◌then◌else◌}
 use Rattle.std.specs.Option.{option_or}
 use Rattle.fault_messages.specs.Nearness.{is_near}

@@ -15,7 +15,7 @@ run_notes words None told = []
 run_notes words (Some script) told = link_notes words 1 (lines_of script) told
     ++ sink_notes words told 1 (lines_of script)
 
--- of a check: the event of the trace that is told by its number, or the line that is none
+-- of a check: the event of the trace of this number, or the line that is no event
 unfoldable pub trace_head : List ℕ → List ℕ → List ℕ
 trace_head trace n = codes "pipegraph: " ++ (escaped trace ++ (codes ":" ++ (n ++ codes ": ")))
 

@@ -26,7 +26,7 @@ mix_place ws = if is_gain (word ws 2) then 3 else 2
 abbrev pub map_place : List (List ℕ) → ℕ
 map_place ws = if is_number 1 8 (word ws 2) then 3 else 2
 
--- a command whose number stands first, and the place in other commands
+-- a command whose number is first, and the place in other commands
 abbrev pub is_bare : List ℕ → Bool
 is_bare name = bytes_eq name (codes "quantum") || bytes_eq name (codes "cycles")
 

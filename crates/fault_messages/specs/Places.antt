@@ -23,7 +23,7 @@ reads_script words =
 abbrev pub is_line : List (List ℕ) → ℕ → Bool
 is_line words place = reads_script words && not (place == 0) && not (place == trace_place)
 
--- a place as people write it: `FILE:LINE`, or the file alone
+-- a place as people write it: `FILE:LINE`, or only the file
 abbrev pub script_place : List (List ℕ) → ℕ → List ℕ
 script_place words place =
     if place == 0 then escaped (word words 1)
@@ -41,7 +41,7 @@ line_at script n = slice_get (lines_of script) (n - 1)
 abbrev pub lines_before : List ℕ → ℕ → List (List ℕ)
 lines_before script n = take (n - 1) (lines_of script)
 
--- the file that a line names: the word behind the port of `offer`, and behind the name of other
+-- the file that a line names: the word after the port of `offer`, and after the name of other
 -- nodes
 abbrev pub file_word : List (List ℕ) → List ℕ
 file_word words =

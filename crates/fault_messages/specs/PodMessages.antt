@@ -55,7 +55,7 @@ abbrev pub number_text : Option ℕ → List ℕ
 number_text None = []
 number_text (Some n) = decimal n
 
--- behind the number: the name of a key, and of a size the four letters that a WAV file begins with
+-- after the number: the name of a key, and of a size the four letters that a WAV file begins with
 abbrev pub size_part : ℕ → List ℕ
 size_part size =
     if size == 0x46464952 then codes "; it begins with RIFF, as a WAV file does" else []

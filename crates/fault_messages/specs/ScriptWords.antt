@@ -22,7 +22,7 @@ script_text F.OfferLate = codes "offers must stand before the links of their nod
 script_text (F.TooMany which) = limit_said which
 script_text F.AsyncLate = codes "async must stand before the links of its node"
 
--- the word behind the command, and what stands before and behind it
+-- the word after the command, and what is before and after it
 abbrev pub said_before : ScriptWhy → List ℕ
 said_before F.NameTaken = codes "the name is taken: "
 said_before F.OfferLate = codes "offers must stand before the links of their node: "

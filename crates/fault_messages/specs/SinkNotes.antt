@@ -30,7 +30,7 @@ unused_meter name = quoted name ++ codes " had no format at the end, so it has n
 unfoldable pub overwritten : List ℕ → List ℕ
 overwritten file = quoted file ++ codes " is written by a later sink too, whose frames stand"
 
--- of the line of a sink, with the lines behind it; of a meter
+-- of the line of a sink, with the lines after it; of a meter
 abbrev pub sink_note : Words → List ℕ → ℕ → Words → Words → List ℕ
 sink_note words told n ws later =
     if is_unused told (word ws 1) then note_at words n (unused_sink (word ws 1) (word ws 2))

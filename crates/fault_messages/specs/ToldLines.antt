@@ -6,7 +6,7 @@ use Rattle.fault_messages.specs.Escaping.{escaped}
 use Rattle.fault_messages.specs.NameRules.{behind_first}
 use Rattle.fault_messages.specs.Places.{word}
 
--- the first line, and what stands behind it
+-- the first line, and what is after it
 abbrev pub line_len : List ℕ → ℕ
 line_len text = position_or_len is_line_feed text
 

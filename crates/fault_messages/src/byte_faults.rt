@@ -12,7 +12,7 @@ fn is_allowed(b: u8) -> bool
     matches!(b, b'\t' | b'\n' | b'\r' | b' '..=b'~')
 }
 
-// How many bytes stand before it.
+// How many bytes are before it.
 fn byte_place(line: &[u8]) -> usize
     ensures value { result ≡ byte_place line.now }
     ensures within { result ≤ length line.now }

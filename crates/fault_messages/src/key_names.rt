@@ -29,7 +29,7 @@ fn key_name(key: u32) -> Option<&'static [u8]>
     }
 }
 
-/// The name of a key behind its number, in brackets; nothing where it has none.
+/// The name of a key after its number, in brackets; nothing where it has none.
 pub fn put_key(text: &mut Text, key: u32) -> Result<(), Memory>
     ensures { OnOk result (text.new ≡ text.old ++ key_part key) }
 {

@@ -83,7 +83,7 @@ fn put_link_part(
     }
 }
 
-// What was put of the lines behind this one.
+// What was put of the lines after this one.
 fn told_behind<'a>(line: &[u8], told: &'a [u8]) -> &'a [u8]
     ensures { result.now ≡ told_behind line.now told.now }
 {

@@ -55,7 +55,7 @@ pub fn is_pair(line: &[u8]) -> bool
     name == b"link".as_slice() || name == b"unlink".as_slice()
 }
 
-// How many bytes stand before the first dot.
+// How many bytes are before the first dot.
 fn dot_place(word: &[u8]) -> usize
     ensures value { result ≡ dot_place word.now }
     ensures within { result ≤ length word.now }
@@ -63,7 +63,7 @@ fn dot_place(word: &[u8]) -> usize
     word.iter().take_while(|b| **b != b'.').count()
 }
 
-/// What stands before the first dot of an end.
+/// What is before the first dot of an end.
 pub fn end_name(word: &[u8]) -> &[u8]
     ensures { result.now ≡ end_name word.now }
 {
@@ -71,7 +71,7 @@ pub fn end_name(word: &[u8]) -> &[u8]
     name
 }
 
-/// What stands behind the first dot of an end; nothing where it has none.
+/// What is after the first dot of an end; nothing where it has none.
 pub fn end_port(word: &[u8]) -> &[u8]
     ensures { result.now ≡ end_port word.now }
 {

@@ -1,4 +1,4 @@
-//! The command that is meant by a word that is none.
+//! The command that is meant by a word that is no command.
 ghost use Rattle.std.specs.Prelude.{◌≡◌, option_copied};
 ghost use Rattle.fault_messages.specs.Nearest.{node_near, graph_near, time_near, nearest, second_choice, meant};
 

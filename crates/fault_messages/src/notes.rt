@@ -32,7 +32,7 @@ fn put_run_notes(
     }
 }
 
-// A line of a trace, told by its number, at the beginning of a note.
+// A line of a trace, given by its number, at the beginning of a note.
 #[tactic(auto, unfolding(crate::specs::Notes::trace_head))]
 fn put_trace_head(text: &mut Text, trace: &[u8], number: &[u8]) -> Result<(), Memory>
     ensures { OnOk result (text.new ≡ text.old ++ trace_head trace.now number.now) }

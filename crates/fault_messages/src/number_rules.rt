@@ -60,7 +60,7 @@ fn map_place(line: &[u8]) -> u32
     }
 }
 
-// Whether the number of a command stands first.
+// Whether the number of a command is first.
 fn is_bare(name: &[u8]) -> bool
     ensures { result ≡ is_bare name.now }
 {

@@ -85,7 +85,7 @@ fn size_part(size: u32) -> &'static [u8]
     }
 }
 
-// What stands behind the number.
+// What is after the number.
 fn put_pod_behind(text: &mut Text, why: PodWhy) -> Result<(), Memory>
     ensures { OnOk result (text.new ≡ text.old ++ pod_behind why) }
 {

@@ -34,7 +34,7 @@ fn put_second(text: &mut Text, from: &[u8], to: &[u8]) -> Result<(), Memory>
     }
 }
 
-// Where it is none.
+// Where it is no port.
 fn put_first(text: &mut Text, from: &[u8], to: &[u8]) -> Result<(), Memory>
     ensures { OnOk result (text.new ≡ text.old ++ first_said from.now to.now) }
 {

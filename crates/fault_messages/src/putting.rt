@@ -26,7 +26,7 @@ pub fn put_before(text: &mut Text, words: &[u8], word: &[u8]) -> Result<(), Memo
     put_quoted(text, word)
 }
 
-/// A word in quotes, with words behind it.
+/// A word in quotes, with words after it.
 pub fn put_behind(text: &mut Text, word: &[u8], words: &[u8]) -> Result<(), Memory>
     ensures { OnOk result (text.new ≡ text.old ++ (quoted word.now ++ words.now)) }
 {
@@ -74,7 +74,7 @@ pub fn put_quoted_pair(
     put_quoted(text, second)
 }
 
-/// A word in quotes, with words behind it, a second word in quotes, and the last words.
+/// A word in quotes, with words after it, a second word in quotes, and the last words.
 pub fn put_two_quoted(
     text: &mut Text,
     first: &[u8],
@@ -89,7 +89,7 @@ pub fn put_two_quoted(
     put_behind(text, second, behind)
 }
 
-/// A word in quotes, with words behind it, further words, and the last words.
+/// A word in quotes, with words after it, further words, and the last words.
 pub fn put_quoted_rule(
     text: &mut Text,
     word: &[u8],
@@ -124,7 +124,7 @@ pub fn put_shown(
     text.extend(behind)
 }
 
-/// Two words as they are shown, with words before, between and behind them.
+/// Two words as they are shown, with words before, between and after them.
 pub fn put_shown_pair(
     text: &mut Text,
     before: &[u8],

@@ -65,14 +65,14 @@ fn form_part(name: &[u8]) -> &'static [u8]
     }
 }
 
-// Whether a number sign stands in the line.
+// Whether a number sign is in the line.
 fn has_number_sign(line: &[u8]) -> bool
     ensures { result ≡ list_any (λ b. b == 0x23) line.now }
 {
     line.iter().any(|b| *b == b'#')
 }
 
-// That comments stand alone, where the line may end in one.
+// That comments have lines of their own, where the line may end in one.
 fn comment_part(line: &[u8]) -> &'static [u8]
     ensures { result.now ≡ comment_part line.now }
 {
@@ -138,7 +138,7 @@ fn put_unknown_port(text: &mut Text, line: &[u8]) -> Result<(), Memory>
     }
 }
 
-// What is said before the word behind the command.
+// What is said before the word after the command.
 fn said_before(why: ScriptWhy) -> &'static [u8]
     ensures { result.now ≡ said_before why }
 {
@@ -150,7 +150,7 @@ fn said_before(why: ScriptWhy) -> &'static [u8]
     }
 }
 
-// What is said behind it.
+// What is said after it.
 fn said_behind(why: ScriptWhy) -> &'static [u8]
     ensures { result.now ≡ said_behind why }
 {

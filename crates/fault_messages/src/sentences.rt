@@ -56,7 +56,7 @@ fn put_file_fault(
     text.extend(what)
 }
 
-// A place, and a colon behind it.
+// A place, and a colon after it.
 fn put_colon(text: &mut Text, words: &[String], place: u32) -> Result<(), Memory>
     ensures { OnOk result (text.new ≡ text.old
         ++ (place_text (map string_bytes words.now) place ++ codes ": ")) }
@@ -106,7 +106,7 @@ fn put_sentence(
     }
 }
 
-// What stands before it.
+// What is before it.
 fn before(status: &Status) -> &'static [u8]
     ensures { result.now ≡ before status.now }
 {

@@ -88,7 +88,7 @@ fn put_overwritten(text: &mut Text, file: &[u8]) -> Result<(), Memory>
     )
 }
 
-// The note on the line of a sink, with the lines behind it.
+// The note on the line of a sink, with the lines after it.
 fn put_sink_note(
     text: &mut Text,
     words: &[String],
@@ -135,7 +135,7 @@ fn put_meter_note(
     text.extend(b"\n")
 }
 
-// The note on a line, with the lines behind it.
+// The note on a line, with the lines after it.
 fn put_sink_part(
     text: &mut Text,
     words: &[String],

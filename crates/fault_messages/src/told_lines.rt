@@ -5,7 +5,7 @@ ghost use Rattle.fault_messages.specs.ToldLines.{line_len, first_line, behind_li
 use crate::lines::word_of;
 use pw_lists::next_piece;
 
-// How many bytes stand before the first line feed.
+// How many bytes are before the first line feed.
 fn line_len(text: &[u8]) -> usize
     ensures value { result ≡ line_len text.now }
     ensures within { result ≤ length text.now }
@@ -21,7 +21,7 @@ pub fn first_line(text: &[u8]) -> &[u8]
     line
 }
 
-/// What stands behind the first line; nothing where there is no other.
+/// What is after the first line; nothing where there is no other.
 pub fn behind_line(text: &[u8]) -> &[u8]
     ensures { result.now ≡ behind_line text.now }
 {

@@ -1,4 +1,4 @@
--- Laws of `specs/FirstLoad.antt`: what is kept of a first load stood under its name before it.
+-- Laws of `specs/FirstLoad.antt`: what is kept of a first load was stored under its name before it.
 use Rattle.std.proofs.Common.{◌≡◌, ℕ, List, Bool, true, false, sym, subst, ⊎_elim}
 use Rattle.std.proofs.Math.Logic.{∥∥₁_elim, ∥∥₁_map}
 use Rattle.std.proofs.Props.{props}

@@ -23,14 +23,14 @@ abbrev pub kept_under : First → List ℕ → Option (List ℕ)
 kept_under (Kept kept bytes) name = if bytes_eq kept name then Some bytes else None
 kept_under _ name = None
 
--- BEFORE THE FIRST CALL the files hold what they held at the beginning; what is kept stood under
--- its name then
+-- BEFORE THE FIRST CALL the files hold what they held at the beginning; what is kept was stored
+-- under its name then
 abbrev pub IsTied : Held → Held → First → Type 0
 IsTied begun held Awaited = held ≡ begun
 IsTied begun held (Kept name bytes) = IsSome begun → names_in begun name ≡ Some bytes
 IsTied begun held Gone = Unit {0}
 
--- bytes that stood under a name, where that is told
+-- bytes that were stored under a name, where that is reported
 abbrev pub IsReadOf : Held → List ℕ → Option (List ℕ) → Type 0
 IsReadOf begun name None = Unit {0}
 IsReadOf begun name (Some bytes) = IsSome begun → names_in begun name ≡ Some bytes

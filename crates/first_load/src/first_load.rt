@@ -10,7 +10,7 @@ use pw_outside::{FileFail, Files, Loaded};
 use std::alloc::Global;
 use std::marker::{Brand, PhantomData};
 
-/// What was held before the first call. Contracts alone see it.
+/// What was held before the first call. Only contracts see it.
 pub trait Begun {
     ghost begun: { Held };
 }
@@ -25,7 +25,7 @@ pub struct FirstLoad<F: Files, K: Begun> {
     files: F,
     first: First,
     at: PhantomData<K>,
-    // What is kept stood under its name before the first call.
+    // What is kept was stored under its name before the first call.
     ghost tied: { ∥ IsTied K.begun (F.held files) first ∥₁ },
 }
 
@@ -46,7 +46,7 @@ impl<F: Files, K: Begun> FirstLoad<F, K> {
     /// The bytes that the first load gave, where it was one of this name and they are kept.
     pub fn under(&self, name: &[u8]) -> Option<&[u8]>
         ensures value { option_copied result ≡ kept_under self.now.first name.now }
-        // Where that is told, they stood under this name before the first call.
+        // Where that is reported, they were stored under this name before the first call.
         ensures read { IsReadOf K.begun name.now (option_copied result) }
     {
         match &self.first {

@@ -1,4 +1,5 @@
--- Laws of `specs/Answers.antt`: a script's names are such as lines tell; what is read after a script; words that are refused.
+-- Laws of `specs/Answers.antt`: a script's names are such as lines can name; what is read after a
+-- script; words that are refused.
 use Rattle.std.proofs.Common.{◌≡◌, ℕ, ◌&&◌, true, false, List, [], ◌∷◌, length, refl, sym, ap, ◌∙◌, subst, IsTrue}
 use Rattle.std.specs.Prelude.{Result, Err, IsSome, All, nat_le}
 use Rattle.pw_outside.specs.Files.{Names, Held, names_in}

@@ -1,5 +1,5 @@
--- Causes, whether the files are told or not: of a fault, which counts of faults outside rose; of
--- Usage, the words. This project's own.
+-- Causes, whether the files are reported or not: of a fault, which counts of faults outside rose;
+-- of Usage, the words. This project's own.
 use Rattle.std.specs.Prelude.{◌≡◌, ◌⊎◌, ℕ, Result, Ok, Err}
 use Rattle.pw_outside.specs.Causes.{Rose}
 use Rattle.graph_pictures.specs.declared.status.Status.{Status}
@@ -18,7 +18,7 @@ abbrev pub IsCausedBy : {T : Type 0} → ℕ → ℕ → Result T Status → Typ
 IsCausedBy before now (Err (S.Usage word)) = Unit {0}
 IsCausedBy before now result = IsCaused before now result
 
--- THE CAUSE of a status: a count of failed loads that rose, of failed puts; others have none
+-- THE CAUSE of a status: a count of failed loads that rose, of failed puts; others have no cause
 abbrev pub HasCause : ℕ → ℕ → ℕ → ℕ → Status → Type 0
 HasCause loads loads_now puts puts_now (S.ReadFault place) = Rose loads loads_now
 HasCause loads loads_now puts puts_now S.WriteFault = Rose puts puts_now
@@ -29,8 +29,8 @@ abbrev pub status_of : {T : Type 0} → Result T Status → Status
 status_of (Ok x) = S.Ok
 status_of (Err status) = status
 
--- USAGE comes exactly where the words are not in the grammar, with the same word; or memory was
--- short
+-- USAGE is answered exactly where the words are not in the grammar, with the same word; or memory
+-- was short
 pub record IsUsage (expected : Result Request Status) (status : Status) : Type 0 where
   pub only : (word : ℕ) → status ≡ S.Usage word → expected ≡ Err (S.Usage word)
   pub always : (word : ℕ) → expected ≡ Err (S.Usage word)

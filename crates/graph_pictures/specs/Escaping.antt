@@ -1,4 +1,4 @@
--- Escaping: bytes of a script as they stand in a picture.
+-- Escaping: bytes of a script as they are in a picture.
 -- Sources: graphviz.org, "DOT Language" (quoted texts) and "Node Shapes" (record labels), where
 -- an ampersand begins a name of a character; w3.org, "XML 1.0", section 2.4.
 use Rattle.std.specs.Prelude.{ℕ, ◌==◌, ◌||◌, if◌then◌else◌, Bool, List, [], ◌∷◌, flat_map, codes}

@@ -12,7 +12,7 @@ use Rattle.graph_pictures.specs.Filling.{filled}
 use Rattle.graph_pictures.specs.GraphNodes.{node_text}
 use Rattle.graph_pictures.specs.GraphLinks.{fates_of, link_text}
 
--- what stands before the statements: from left to right, nodes as records
+-- what is before the statements: from left to right, nodes as records
 abbrev pub head_text : List ℕ
 head_text =
     filled (codes "digraph pipegraph {\n  rankdir=LR; ranksep=0.7; nodesep=0.4;\n") []
@@ -20,7 +20,7 @@ head_text =
     ++ filled (codes "  node [shape=record, fontname=\"sans-serif\", fontsize=12];\n") []
     ++ filled (codes "  edge [arrowsize=0.7];\n") []
 
--- what stands behind them: what the marks mean, below the graph
+-- what is after them: what the marks mean, below the graph
 abbrev pub legend_text : List ℕ
 legend_text =
     filled (codes "  label=\"dashed: one end is async\\lgrey: a later line unlinks it\\l") []

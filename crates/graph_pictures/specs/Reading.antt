@@ -1,4 +1,4 @@
--- What a script and a trace are read as, by what stands in their files; or how they are refused.
+-- What a script and a trace are read as, by what is in their files; or how they are refused.
 -- Where a load failed or memory was short, nothing is said of the files.
 -- Source: this project's own.
 use Rattle.std.specs.Prelude.{◌≡◌, ℕ, ◌-◌, ◌<◌, ◌^◌, List, length, Option, Some, None, Result, Ok, Err}

@@ -19,20 +19,20 @@ link_at number other = None
 abbrev pub link_numbers : List Line → List ℕ
 link_numbers lines = filter_map (λ l. link_at l.line l.command) lines
 
--- the lines of a run that tell what became of a link
+-- the lines of a run that say what became of a link
 abbrev pub tells_link : List ℕ → Bool
 tells_link line = begins line (codes "link ") || begins line (codes "nolink ")
 
 abbrev pub told_links : List (List ℕ) → List (List ℕ)
 told_links run = filter tells_link run
 
--- what `nolink FROM TO CAUSE` tells of the link on the line of this number
+-- what `nolink FROM TO CAUSE` says of the link on the line of this number
 abbrev pub refusal_of : ℕ → List ℕ → Option Refusal
 refusal_of number told = if begins told (codes "nolink ")
     then Some (record { line = number; cause = slice_index_or (words_of told) 3 [] })
     else None
 
--- what the lines of a run tell of the links on lines of these numbers
+-- what the lines of a run say of the links on lines of these numbers
 abbrev pub refusals : List ℕ → List (List ℕ) → List Refusal
 refusals numbers told = filter_map (λ p. refusal_of p.0 p.1) (zip numbers told)
 

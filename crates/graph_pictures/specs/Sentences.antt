@@ -1,5 +1,5 @@
 -- Sentences for people: why no picture was printed, by the words of the command line and by the
--- status. They stand on standard error.
+-- status. They are printed on standard error.
 -- Source: this project's own; the faults of a WAV file are those of RIFF WAVE PCM.
 use Rattle.std.specs.Prelude.{ℕ, ◌==◌, ◌||◌, nat_lt, if◌then◌else◌, List, [], ◌∷◌, ◌++◌, map, codes, slice_index_or}
 use Rattle.pw_graph.specs.declared.limit.Which.{Which}

@@ -20,7 +20,7 @@ frame_of names rows shown all = record {
   all = all;
 }
 
--- what stands above: how many events there are, and how many are drawn if these are fewer
+-- what is above: how many events there are, and how many are drawn if these are fewer
 abbrev pub note_text : Frame → List ℕ
 note_text f = if f.shown == f.all then filled (codes "% events in order") (f.all ∷ [])
     else filled (codes "the first % of % events in order") (f.shown ∷ f.all ∷ [])

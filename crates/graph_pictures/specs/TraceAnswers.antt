@@ -21,7 +21,7 @@ DrawsTrace script bytes (Err (S.Line number)) =
 DrawsTrace script bytes (Err S.Memory) = Unit {0}
 DrawsTrace script bytes (Err status) = ⊥
 
--- the graph of a script with what a run's text tells of its links, or the first bad line
+-- the graph of a script with what a run's text says of its links, or the first bad line
 abbrev pub DrawsRun : Script → List ℕ → Result (List ℕ) Status → Type 0
 DrawsRun script bytes (Ok text) = (events : List Event)
     × IsTrace script.names (trace_lines bytes) events

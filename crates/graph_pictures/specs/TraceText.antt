@@ -12,7 +12,7 @@ use Rattle.cycle_trace.specs.declared.event_reading.TraceFault.TheVariants.{Line
 abbrev pub begins : List ℕ → List ℕ → Bool
 begins line word = starts_with nat_eq line word
 
--- the words before the lines of a run that tell no event
+-- the words before the lines of a run that are of no event
 abbrev pub is_passed : List ℕ → Bool
 is_passed line = list_any (begins line)
     (codes "link " ∷ codes "nolink " ∷ codes "unlink " ∷ codes "nounlink " ∷ codes "wrote "

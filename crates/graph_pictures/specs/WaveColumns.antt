@@ -1,4 +1,4 @@
--- Columns of a wave: the least and the greatest sample of the frames that a column stands for.
+-- Columns of a wave: the least and the greatest sample of the frames that a column shows.
 -- Source: RIFF WAVE, PCM of 16 bits, whose samples are interleaved by channel. The columns are this
 -- project's own.
 use Rattle.std.specs.Prelude.{ℕ, ◌+◌, ◌*◌, ◌/◌, ◌==◌, ◌||◌, Bool, List, map, fold, length, min, slice_range}

@@ -5,7 +5,7 @@ use Rattle.std.specs.List.{range_with_len}
 use Rattle.graph_pictures.specs.Filling.{filled}
 use Rattle.graph_pictures.specs.WaveColumns.{columns_of, column_of, least_of, greatest_of, depth_of, is_clipped}
 
--- how far below the top of its lane a sample stands: a lane is 256 points high
+-- how far below the top of its lane a sample is: a lane is 256 points high
 abbrev pub point_of : ℤ → ℕ
 point_of sample = depth_of sample / 256
 

@@ -1,4 +1,4 @@
--- What is drawn of a file as a wave, by what stands in it; or how it is refused. Where a load
+-- What is drawn of a file as a wave, by what is in it; or how it is refused. Where a load
 -- failed or memory was short, nothing is said of the file.
 -- Source: RIFF WAVE, PCM of 16 bits; the statuses are this project's own.
 use Rattle.std.specs.Prelude.{◌≡◌, ℕ, List, Option, Some, Result, Ok, Err}

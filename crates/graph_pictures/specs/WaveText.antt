@@ -47,7 +47,7 @@ wave_legend_text foot =
     ++ filled (codes " a sample is 32767 or -32768</text><text x='8' y='%'>s</text>\n")
     ((foot + 18) ∷ [])
 
--- what stands before the lanes, and the lanes
+-- what is before the lanes, and the lanes
 abbrev pub wave_head_text : Wav → List ℕ
 wave_head_text wav =
     wave_size_text (foot_of (lanes_of wav.channels))

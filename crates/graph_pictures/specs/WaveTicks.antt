@@ -26,7 +26,7 @@ step_among (step ∷ more) millis =
 abbrev pub step_of : ℕ → ℕ
 step_of millis = step_among steps millis
 
--- where a time stands on an axis of `wide` points for all frames: at its frame
+-- where a time is on an axis of `wide` points for all frames: at its frame
 abbrev pub place_of : ℕ → ℕ → ℕ → ℕ → ℕ
 place_of rate frames wide millis = millis * rate / 1000 * wide / max frames 1
 

@@ -13,12 +13,12 @@ abbrev pub is_file_word : List ℕ → Bool
 is_file_word [] = false
 is_file_word (c ∷ cs) = not (c == 45) && nat_le (length (c ∷ cs)) 255
 
--- a request behind whose words nothing stands from an index on
+-- a request with no word from an index on
 abbrev pub alone : ℕ → List (List ℕ) → Request → Result Request Status
 alone index [] request = Ok request
 alone index (more ∷ rest) request = Err (S.Usage index)
 
--- the words behind `graph`: a script, and behind it the trace of its run or nothing
+-- the words after `graph`: a script, and after it the trace of its run or nothing
 abbrev pub graph_behind : List ℕ → List (List ℕ) → Result Request Status
 graph_behind script [] = Ok (R.Graph script)
 graph_behind script (trace ∷ rest) =
@@ -29,7 +29,7 @@ graph_of [] = Err (S.Usage 1)
 graph_of (script ∷ rest) = if is_file_word script then graph_behind script rest
     else Err (S.Usage 1)
 
--- the words behind `timeline`: a script, and a trace behind it
+-- the words after `timeline`: a script, and a trace after it
 abbrev pub timeline_behind : List ℕ → List (List ℕ) → Result Request Status
 timeline_behind script [] = Err (S.Usage 2)
 timeline_behind script (trace ∷ rest) =
@@ -40,7 +40,7 @@ timeline_of [] = Err (S.Usage 1)
 timeline_of (script ∷ rest) = if is_file_word script then timeline_behind script rest
     else Err (S.Usage 1)
 
--- the words behind `wave`
+-- the words after `wave`
 abbrev pub wave_of : List (List ℕ) → Result Request Status
 wave_of [] = Err (S.Usage 1)
 wave_of (file ∷ rest) = if is_file_word file then alone 2 rest (R.Wave file)

@@ -70,8 +70,8 @@ fn print_answer<O: Sink>(alloc: Global, out: &mut O, answer: &Result<Text, Statu
 
 /// Prints the picture that the words of a command line ask for, or the line of a status.
 ///
-/// The words are those behind the program's own name: `graph SCRIPT`, `graph SCRIPT TRACE`,
-/// `timeline SCRIPT TRACE` or `wave FILE`. Loads come in this order, and nothing is stored. A
+/// The words are those after the program's own name: `graph SCRIPT`, `graph SCRIPT TRACE`,
+/// `timeline SCRIPT TRACE` or `wave FILE`. Loads are made in this order, and nothing is stored. A
 /// script or a file is refused with the line and the status that `pipegraph` has for it, and of a
 /// trace with a line that is no event line that line's number is printed. Takes memory for the
 /// files and for the text.
@@ -81,17 +81,18 @@ pub fn print_picture<F: Files, O: Sink>(
     files: &mut F,
     out: &mut O,
 ) -> Status
-    // What is printed is the answer to the words, by what the files hold, where that is told.
+    // What is printed is the answer to the words, by what the files hold, where the files report
+    // it.
     ensures told { IsSome (F.held files.old) → (answer : Result (List ℕ) Status)
         × IsAnswer (names_in (F.held files.old)) (map string_bytes words.now) answer
         × IsPrinted answer (O.faults out.old) (O.faults out.new) (O.given out.old)
         (O.given out.new) result }
 
-    // A fault of a file or of the output comes only where it counted one.
+    // A fault of a file or of the output is answered only where it counted one.
     ensures cause { HasCause (F.load_faults files.old) (F.load_faults files.new)
         (O.faults out.old) (O.faults out.new) result }
 
-    // Usage comes exactly where the words are not in the grammar, or memory was short.
+    // Usage is answered exactly where the words are not in the grammar, or memory was short.
     ensures usage { IsUsage (request_of (map string_bytes words.now)) result }
 
     // The files hold what they held.

@@ -153,7 +153,7 @@ fn put_statements(
     Ok(())
 }
 
-// What stands before the statements.
+// What is before the statements.
 fn put_head(text: &mut Text) -> Result<(), Memory>
     ensures { OnOk result (text.new ≡ text.old ++ head_text) }
 {
@@ -201,7 +201,7 @@ fn put_legend(text: &mut Text) -> Result<(), Memory>
 /// its last priority; beside a node the number of its last loop; a border of dots for a node that
 /// is off at the end. `run` is the text that a run of the script printed, or nothing: a link that
 /// it refused is dotted and grey, with the cause. Of a file's name of more than 32 bytes the middle
-/// is left out. Lines of offers, buffers and cycles draw nothing; below stands what the marks mean.
+/// is left out. Lines of offers, buffers and cycles draw nothing; below is what the marks mean.
 /// Takes memory for the text and for each `async`, `link` and `unlink` line.
 #[tactic(auto, using(crate::proofs::Grown::texts), unfolding(crate::specs::GraphText::graph_text))]
 pub fn graph(alloc: Global, script: &Script, run: &[u8]) -> Result<Text, Memory>

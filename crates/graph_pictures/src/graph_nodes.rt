@@ -83,7 +83,7 @@ fn put_file(text: &mut Text, word: &[u8], file: &Text) -> Result<(), Memory>
     put_name(text, file.as_slice())
 }
 
-// A channel map: its channels, and where each comes from.
+// A channel map: its channels, and which input each is.
 #[tactic(auto, using(crate::proofs::Grown::texts))]
 fn put_map(text: &mut Text, channels: u32, list: &[u32]) -> Result<(), Memory>
     ensures { OnOk result (text.new ≡ text.old

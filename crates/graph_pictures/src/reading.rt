@@ -133,7 +133,7 @@ fn drawn_trace(alloc: Global, script: &Script, bytes: &[u8]) -> Result<Text, Sta
     }
 }
 
-// The graph of a script, with what a run's text tells of its links.
+// The graph of a script, with what a run's text says of its links.
 fn drawn_run(alloc: Global, script: &Script, bytes: &[u8]) -> Result<Text, Status>
     requires ranges { HasRanges script.now }
     requires order { HasOrder script.now }
@@ -191,7 +191,7 @@ fn read_trace<F: Files>(
     }
 }
 
-// The graph of a script with what the trace of a file tells of its links.
+// The graph of a script with what the trace of a file says of its links.
 fn read_links<F: Files>(
     alloc: Global,
     files: &mut F,
@@ -213,7 +213,7 @@ fn read_links<F: Files>(
     }
 }
 
-// The graph of the script of a file, with what the trace of another tells of its links.
+// The graph of the script of a file, with what the trace of another says of its links.
 fn read_run_graph<F: Files>(
     alloc: Global,
     files: &mut F,

@@ -44,14 +44,14 @@ pub(crate) fn link_numbers(alloc: Global, lines: &[Line]) -> Result<Items<u32>, 
     }
 }
 
-// Whether a line of a run tells what became of a link.
+// Whether a line of a run says what became of a link.
 fn tells_link(line: &[u8]) -> bool
     ensures { result ≡ tells_link line.now }
 {
     begins(line, b"link ") || begins(line, b"nolink ")
 }
 
-// The first line of a text that tells what became of a link, and the text after it.
+// The first line of a text that says what became of a link, and the text after it.
 fn next_told(text: &[u8]) -> Option<(&[u8], &[u8])>
     ensures { MatchOption result (told_links (trace_lines text.now) ≡ [])
         (λ cut. told_links (trace_lines text.now)
@@ -84,7 +84,7 @@ fn word_at(line: &[u8], index: u32) -> &[u8]
     }
 }
 
-// What a line of a run tells of the link on the line of this number.
+// What a line of a run says of the link on the line of this number.
 fn refusal_of(alloc: Global, number: u32, told: &[u8]) -> Result<Option<Refusal>, Memory>
     ensures { IfOk result (λ r. r ≡ refusal_of number told.now) }
 {
@@ -98,7 +98,7 @@ fn refusal_of(alloc: Global, number: u32, told: &[u8]) -> Result<Option<Refusal>
     }))
 }
 
-/// What the text of a run tells of the links on the lines of these numbers. Takes memory for each
+/// What the text of a run says of the links on the lines of these numbers. Takes memory for each
 /// cause; time in proportion to the text.
 pub(crate) fn refusals_of(
     alloc: Global,

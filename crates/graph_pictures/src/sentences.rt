@@ -172,7 +172,7 @@ fn put_sentence(
     }
 }
 
-/// The sentence that tells people why no picture was printed, by the words of the command line and
+/// The sentence that says why no picture was printed, by the words of the command line and
 /// by the status: nothing where all was done. Takes memory for the text.
 pub fn explain(alloc: Global, words: &[String], status: Status) -> Result<Text, Memory>
     ensures { IfOk result

@@ -30,7 +30,7 @@ fn is_finish(event: Event, cycle: u32, node: u32) -> bool
     }
 }
 
-// How many events stand before the finish of a node in a cycle, if there is one, or before the end.
+// How many events are before the finish of a node in a cycle, if there is one, or before the end.
 fn before_finish(cycle: u32, node: u32, after: &[Event]) -> usize
     ensures value { result ≡ position_or_len (is_finish cycle node) after.now }
     ensures within { result ≤ length after.now }

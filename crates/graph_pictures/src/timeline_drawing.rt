@@ -88,7 +88,7 @@ fn put_legend(text: &mut Text) -> Result<(), Memory>
     Ok(())
 }
 
-// What stands before the groups.
+// What is before the groups.
 fn put_head(text: &mut Text, frame: Frame) -> Result<(), Memory>
     requires sizes { AreSizes frame }
     ensures { OnOk result (text.new ≡ text.old ++ head_text frame) }
@@ -173,7 +173,7 @@ fn put_shown(
 /// The timeline of events as an SVG, where the nodes have these names.
 ///
 /// Each node that a drawn event names has a row, ascending by number; the built-in driver has the
-/// last. From left to right, 8 points an event, stand a rule with the number of a cycle at its
+/// last. From left to right, 8 points an event, are a rule with the number of a cycle at its
 /// begin, a bar from the start of a node to its finish, or to the end, and a dotted rule with a
 /// diamond in the row of each late node at a late check. After 200 events the next band begins
 /// below, which says its cycle; of more than 1,000 events the first 1,000 are drawn, which a note

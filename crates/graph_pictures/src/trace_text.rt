@@ -37,7 +37,7 @@ pub(crate) fn begins(line: &[u8], word: &[u8]) -> bool
     line.starts_with(word)
 }
 
-// Whether a line tells what a run did, and no event.
+// Whether a line says what a run did, and no event.
 fn is_passed(line: &[u8]) -> bool
     ensures { result ≡ is_passed line.now }
 {
@@ -100,7 +100,7 @@ fn take_line(
     }
 }
 
-/// The events of a run's text, or of its event lines alone: the lines that tell what links, sinks
+/// The events of a run's text, or of its event lines only: the lines that say what links, sinks
 /// and meters did are passed over. Or the first line that is neither, counted from 1.
 ///
 /// Takes memory for the events, and for each line; time in proportion to the bytes and the names.

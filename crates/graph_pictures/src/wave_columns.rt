@@ -99,7 +99,7 @@ fn higher(a: i16, b: i16) -> i16
     if b < a { a } else { b }
 }
 
-/// The least of samples: 32767 of none.
+/// The least of samples: 32767 of no samples.
 pub(crate) fn least_of(samples: &[i16]) -> i16
     ensures { result ≡ least_of samples.now }
 {
@@ -110,7 +110,7 @@ pub(crate) fn least_of(samples: &[i16]) -> i16
     least
 }
 
-/// The greatest of samples: -32768 of none.
+/// The greatest of samples: -32768 of no samples.
 pub(crate) fn greatest_of(samples: &[i16]) -> i16
     ensures { result ≡ greatest_of samples.now }
 {

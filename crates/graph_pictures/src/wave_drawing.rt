@@ -112,7 +112,7 @@ fn put_legend(text: &mut Text, foot: u64) -> Result<(), Memory>
     )
 }
 
-// What stands before the lanes.
+// What is before the lanes.
 #[tactic(auto, using(crate::proofs::Grown::texts))]
 fn put_head(text: &mut Text, wav: &Wav) -> Result<(), Memory>
     requires { IsWave wav.now }

@@ -9,7 +9,7 @@ use crate::filling::fill;
 use crate::wave_columns::{column_of, columns_of, depth_of, greatest_of, is_clipped, least_of};
 use pw_lists::{Memory, Text};
 
-// How far below the top of its lane a sample stands.
+// How far below the top of its lane a sample is.
 fn point_of(sample: i16) -> u64
     ensures value { result ≡ point_of sample }
     ensures within { result ≤ 255 }

@@ -79,7 +79,7 @@ fn step_among(steps: &[u64], millis: u64) -> u64
     }
 }
 
-// Where a time stands on the axis.
+// Where a time is on the axis.
 fn place_of(rate: u64, frames: u64, wide: u64, millis: u64) -> u64
     requires rate { rate ≤ rate_limit }
     requires wide { wide ≤ 1000 }
@@ -112,7 +112,7 @@ fn put_tick(text: &mut Text, foot: u64, place: u64, millis: u64) -> Result<(), M
     )
 }
 
-// The rule of a time, where it stands.
+// The rule of a time, at its place.
 fn put_step(
     text: &mut Text,
     rate: u64,

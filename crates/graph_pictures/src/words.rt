@@ -77,7 +77,7 @@ fn wave_request(alloc: Global, file: &String) -> Result<Request, Status>
     }
 }
 
-// The words behind the script of a graph.
+// The words after the script of a graph.
 fn read_run(alloc: Global, script: &String, rest: &[String]) -> Result<Request, Status>
     ensures { IsRead (graph_behind (string_bytes script.now) (map string_bytes rest.now))
         result }
@@ -96,7 +96,7 @@ fn read_run(alloc: Global, script: &String, rest: &[String]) -> Result<Request, 
     }
 }
 
-// The words behind `graph`.
+// The words after `graph`.
 fn read_graph(alloc: Global, rest: &[String]) -> Result<Request, Status>
     ensures { IsRead (graph_of (map string_bytes rest.now)) result }
 {
@@ -112,7 +112,7 @@ fn read_graph(alloc: Global, rest: &[String]) -> Result<Request, Status>
     }
 }
 
-// The words behind the script of a timeline.
+// The words after the script of a timeline.
 fn read_trace(alloc: Global, script: &String, rest: &[String]) -> Result<Request, Status>
     ensures { IsRead (timeline_behind (string_bytes script.now) (map string_bytes rest.now))
         result }
@@ -131,7 +131,7 @@ fn read_trace(alloc: Global, script: &String, rest: &[String]) -> Result<Request
     }
 }
 
-// The words behind `timeline`.
+// The words after `timeline`.
 fn read_timeline(alloc: Global, rest: &[String]) -> Result<Request, Status>
     ensures { IsRead (timeline_of (map string_bytes rest.now)) result }
 {
@@ -147,7 +147,7 @@ fn read_timeline(alloc: Global, rest: &[String]) -> Result<Request, Status>
     }
 }
 
-// The words behind `wave`.
+// The words after `wave`.
 fn read_wave(alloc: Global, rest: &[String]) -> Result<Request, Status>
     ensures { IsRead (wave_of (map string_bytes rest.now)) result }
 {

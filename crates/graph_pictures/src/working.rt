@@ -47,7 +47,7 @@ pub(crate) fn at_work(alloc: Global, events: &[Event]) -> Result<Items<u32>, Mem
     Ok(rows)
 }
 
-/// The row of a node among those of some nodes: behind all where it has none.
+/// The row of a node among those of some nodes: after all where there is none.
 pub(crate) fn row_of(rows: &[u32], node: u32) -> usize
     ensures value { result ≡ row_of rows.now node }
     ensures within { result ≤ length rows.now }

@@ -8,7 +8,7 @@ use Rattle.pw_outside.specs.Output.{Given, Gave}
 abbrev pub kept_bytes_limit : ℕ
 kept_bytes_limit = 4194304
 
--- a text with more behind it, where it does not get too long
+-- a text with more after it, where it does not get too long
 abbrev pub longer : List ℕ → Option (List ℕ) → Option (List ℕ)
 longer bytes None = None
 longer bytes (Some text) =

@@ -8,7 +8,7 @@ use pw_outside::FileFail;
 /// The most bytes that are kept: more than a run puts without the events of a trace.
 pub const KEPT_BYTES_LIMIT: usize = 4_194_304;
 
-// The text with more behind it; nothing where it gets too long.
+// The text with more after it; nothing where it gets too long.
 fn with_more(kept: Option<Text>, bytes: &[u8]) -> Result<Option<Text>, Memory>
     ensures { IfOk result (λ text. text ≡ longer bytes.now kept) }
 {

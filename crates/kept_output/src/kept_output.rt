@@ -10,7 +10,7 @@ use pw_outside::{FileFail, Sink};
 use std::alloc::Global;
 use std::marker::{Brand, PhantomData};
 
-/// What was given before the first put. Contracts alone see it.
+/// What was given before the first put. Only contracts see it.
 pub trait Started {
     ghost started: { Given };
 }
@@ -64,7 +64,7 @@ impl<O: Sink, S: Started> Sink for KeptOutput<O, S> {
         ensures given { IsPut bytes.now (O.given self.old.out) (O.given self.new.out) result }
         ensures later { O.faults self.old.out ≤ O.faults self.new.out }
         ensures cause { HasCause (O.faults self.old.out) (O.faults self.new.out) result }
-        // Bytes that were put are kept behind those before, unless memory is short or they are too
+        // Bytes that were put are kept after those before, unless memory is short or they are too
         // many; after a failed put nothing is kept.
         ensures kept { IsKeptBy bytes.now result self.old.kept self.new.kept }
     {

@@ -1,4 +1,5 @@
--- ONE ANSWER, WHATEVER THE ORDER: two answers of a command line by two histories differ in event lines alone.
+-- ONE ANSWER, WHATEVER THE ORDER: two answers of a command line by two histories differ only in
+-- event lines.
 use Rattle.std.proofs.Common.{◌≡◌, ℕ, Bool, true, false, List, [], ◌++◌, refl, sym, ap, ◌∙◌, ⊎_elim, inl, inr}
 use Rattle.std.specs.Prelude.{Result, Ok, Err}
 use Rattle.pw_outside.specs.Files.{Names}
@@ -72,7 +73,7 @@ run_alike c h k names = binds_related (PlansFile names c.script) (PlaysPlan c.cr
     (AreAlike c.trace) (alike c.trace) (alike_behind c.trace) (file_one names c.script)
     (λ e p x is r s q t nr ns. plays_alike c.crew c.trace h k p r s q t nr ns)
 
--- the line of a soak tells no event
+-- the line of a soak is of no event
 soaks_same : (number : ℕ) (h k : Happened) (p : Planned) (a b : Answer) → SoaksPlan number h p a → SoaksPlan number k p b
     → ¬ IsShort a → ¬ IsShort b → a ≡ b
 soaks_same number h k p a b x y na nb = ⊎_elim

@@ -116,7 +116,7 @@ module _ {Y : Type 0} (node : Y → ℕ) (h : ℕ → Option Y) (own : (m : ℕ)
 abbrev IsInOne : ℕ → List Part → Type 0
 IsInOne n xs = (i j : ℕ) (x y : Part) → i < j → slice_get xs i ≡ Some x → slice_get xs j ≡ Some y → Contains x.nodes n → Contains y.nodes n → ⊥
 
--- ONE OF SEVERAL: what is found of all parts, where one part alone may have it
+-- ONE OF SEVERAL: what is found of all parts, where only one part may have it
 module _ {Y : Type 0} (give : Part → List Y) (p : Y → Bool) (n : ℕ) where
   abbrev GivesNone : Part → Type 0
   GivesNone x = is_among x.nodes n ≡ false → find p (give x) ≡ None
@@ -207,7 +207,7 @@ module _ (plan : Plan) (waves : List WavIn) (n : ℕ) (ends : (node : PlanNode) 
       let first : 0 + i ≡ i = omega arith in
       peak_other i node peak at (sym (ap (λ (k : ℕ). peak_of_node plan waves (k, node)) first) ∙ e)))
 
--- all runs, one behind the other
+-- all runs, one after the other
 module _ (waves : List WavIn) where
   abbrev runs : List Part → Outcome
   runs parts = all_of (map (λ (part : Part). rendered part.plan waves) parts)

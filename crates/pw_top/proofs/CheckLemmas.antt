@@ -1,4 +1,5 @@
--- Laws of `specs/Check.antt`: a script's names are such as lines tell, and one answer of `check` is allowed.
+-- Laws of `specs/Check.antt`: a script's names are such as lines can name, and one answer of
+-- `check` is allowed.
 use Rattle.std.proofs.Common.{◌≡◌, ℕ, ◌&&◌, true, false, List, [], ◌∷◌, map, length, refl, sym, ap, ◌∙◌, IsTrue}
 use Rattle.std.specs.Prelude.{Ok, All, nat_le}
 use Rattle.pw_graph.specs.declared.shape.Shape.{Shape}

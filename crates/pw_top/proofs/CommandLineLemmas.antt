@@ -22,7 +22,7 @@ pub answer_read : (words : Words) (h : Happened) (names : Names) (c : CommandLin
 unfolding IsAnswer
 answer_read words h names c r e p = rw e p
 
--- memory is short behind the load of a script
+-- memory is short after the load of a script
 abbrev first_short : {T : Type 0} → Expected T
 first_short = ended (0 ∷ []) S.Memory
 

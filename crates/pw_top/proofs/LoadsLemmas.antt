@@ -119,7 +119,7 @@ past [] (suc i) l = refl
 past (x ∷ lines) zero l = absurd (omega arith)
 past (x ∷ lines) (suc i) l = past lines i (omega arith)
 
--- how far the lines have come
+-- how far the lines have got
 pub record IsUnderWay (all : List Kind) (left : List Line) (nodes : List Node) : Type 0 where
   pub good : AreGoodLines (length nodes) all left
   pub kinds : map (λ (n : Node). n.kind) nodes ++ kinds_of left ≡ all
@@ -172,7 +172,7 @@ pub rest_start : (names : Names) (lines : List Line) (inputs : PlanInputs) (r : 
     → Ends (LoadsAll names lines inputs) r → Ends (LoadsAll names lines nothing_loaded) r
 rest_start names lines inputs r e h = subst (λ (s : PlanInputs). Ends (LoadsAll names lines s) r) e h
 
--- behind the last line
+-- after the last line
 pub inputs_of : (lines left : List Line) (inputs : PlanInputs) → AreSoundInputs inputs → IsUnderWay (kinds_of lines) left inputs.ports → left ≡ []
     → AreInputsOf lines inputs
 inputs_of lines left inputs sound way e = record {
@@ -192,7 +192,7 @@ pub ends_here : (names : Names) (left : List Line) (inputs : PlanInputs) → lef
 ends_here names left inputs e = subst (λ (ls : List Line). Ends (LoadsAll names ls inputs) (Ok inputs)) (sym e)
     (part_gives [] (λ outcome. outcome ≡ Ok inputs) inputs refl)
 
--- a fault of a load that came later
+-- a fault of a load that was later
 pub later_cause : {T U : Type 0} (P : T → Type 0) (Q : U → Type 0) (a b n : ℕ) (status : Status) → a ≤ b → CommandCause P b n (Err status)
     → CommandCause Q a n (Err status)
 later_cause P Q a b n S.Ok l h = h

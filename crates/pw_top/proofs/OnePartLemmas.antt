@@ -94,7 +94,7 @@ module _ {T U : Type 0} (P : Expected T → Type 0) (next other : T → Expected
   binds_related a b (goes f x r p fx nx e) (stops g t q gt d) na nb = absurd (crossed f g x t b p q fx gt d nb)
   binds_related a b (goes f x r p fx nx e) (goes g y w q gy ny d) na nb = both_go f g x y r w a b p q fx gy nx ny e d na nb
 
--- what comes next, where there is one answer behind all that the first part gives
+-- what comes next, where there is one answer after all that the first part gives
 module _ {T U : Type 0} (P : Expected T → Type 0) (next : T → Expected U → Type 0) (first : HasOne P)
     (rest : (e : Expected T) (x : T) → P e → e.outcome ≡ Ok x → HasOne (next x)) where
   pub binds_given : HasOne (Binds P next)
@@ -103,7 +103,7 @@ module _ {T U : Type 0} (P : Expected T → Type 0) (next : T → Expected U →
         (λ e x p is r s h k nr ns. (rest e x p is).one r s h k nr ns);
   }
 
--- and behind whatever it may be
+-- and after whatever it may be
 pub binds_one : {T U : Type 0} (P : Expected T → Type 0) (next : T → Expected U → Type 0) → HasOne P → ((x : T) → HasOne (next x))
     → HasOne (Binds P next)
 binds_one P next first rest = binds_given P next first (λ e x p is. rest x)
@@ -113,7 +113,7 @@ pub part_gave : {T : Type 0} (loads : List ℕ) (Q : Result T Status → Type 0)
     → Q (Ok x)
 part_gave loads Q e x p is = ⊎_elim (λ q. subst Q is q) (λ memory. cc) p.1
 
--- and what stood behind it
+-- and what was after it
 pub record Went {T U : Type 0} (P : Expected T → Type 0) (next : T → Expected U → Type 0) (x : U) : Type 0 where
   pub first : Expected T
   pub given : T

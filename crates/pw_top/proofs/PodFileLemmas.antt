@@ -20,7 +20,7 @@ pub read_whole : (place : ℕ) (bytes : List ℕ) (pod : Pod) (size : ℕ) → F
     → Ends (Reads (HoldsPod place bytes)) (Ok pod)
 read_whole place bytes pod size h e = part_gives [] (HoldsPod place bytes) pod (subst (λ n. FrontSpells bytes pod n) e h)
 
--- it goes on behind it
+-- it goes on after it
 pub read_rest : (place : ℕ) (bytes : List ℕ) (pod : Pod) (size : ℕ) → FrontSpells bytes pod size → (size ≡ length bytes → ⊥)
     → Ends (Reads (HoldsPod place bytes)) (Err (S.Pod place (P.Rest size)))
 read_rest place bytes pod size h n =

@@ -34,7 +34,7 @@ line_given : (line given given' : List ℕ) → GaveLine line 0 0 (Some given) (
 line_given line given given' (inl g) = some_is g
 line_given line given given' (inr g) = absurd (never_rose g.1)
 
--- a status of a refusal, and the answer that it tells
+-- a status of a refusal, and the answer that it gives
 abbrev IsRefused : Status → Type 0
 IsRefused S.Ok = ⊥
 IsRefused _ = Unit {0}

@@ -42,7 +42,7 @@ unfolding soak_of
 of_soak [] = refl
 of_soak (word ∷ rest) = with_number (number_of 0 4294967295 word) rest
 
--- the words behind a name that is not `run`
+-- the words after a name that is not `run`
 pub no_ticks : (name : List ℕ) (rest : Words) → bytes_eq name (codes "run") ≡ false → ticks_in (command_of (name ∷ rest)) ≡ 0
 unfolding command_of
 no_ticks name rest other =

@@ -1,6 +1,6 @@
 -- Answers that are allowed: a command's definition by its parts, each with the places of its loads
 -- and an outcome that a relation allows, and what comes next. Where memory is short, no more is
--- told than the loads so far.
+-- said than the loads so far.
 -- Source: this project's own.
 use Rattle.std.specs.Prelude.{◌≡◌, ◌⊎◌, ℕ, List, [], ◌∷◌, Result, Ok, Err}
 use Rattle.pw_graph.specs.declared.limit.Which.{Which}

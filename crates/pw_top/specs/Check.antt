@@ -24,7 +24,7 @@ trace_place = 4294967295
 abbrev pub trace_bytes_limit : ℕ
 trace_bytes_limit = 268435456
 
--- one line tells it: a line that is of no event, or whether the events are legal, and where not
+-- one line says it: a line that is of no event, or whether the events are legal, and where not
 abbrev pub finding_text : Finding → List ℕ
 finding_text (Line number) = line (codes "line") (decimal number ∷ [])
 finding_text (Events Legal) = line (codes "legal") []

@@ -27,7 +27,7 @@ stored_all stores names = fold stored_one names stores
 abbrev pub AllStored : List Store → Held → Held → Type 0
 AllStored stores old new = new ≡ option_map (stored_all stores) old
 
--- the stores before one are whole, it has this place and a prefix of its bytes, none is later
+-- the stores before one are whole, it has this place and a prefix of its bytes, no store is later
 pub record CutAt (stores : List Store) (place : ℕ) (old new : Held) : Type 0 where
   pub before : ℕ
   pub store : Store

@@ -1,4 +1,4 @@
--- What a run of all parts of a script stores and tells, and what happened in it.
+-- What a run of all parts of a script stores and prints, and what happened in it.
 -- Source: PipeWire's documentation, "Graph Scheduling" (several drivers); boards are this
 -- project's.
 use Rattle.std.specs.Prelude.{◌≡◌, List, length, map, flat_map, None, Result, Ok}
@@ -24,7 +24,7 @@ groups_work p = record {
   text = run_text_of (joined_plan (length p.script.names) p.parts) None (parts_outcome p);
 }
 
--- RUNS OF ALL PARTS were made: the history is theirs, one behind the other, and so are the closed
+-- RUNS OF ALL PARTS were made: the history is theirs, one after the other, and so are the closed
 -- boards; the ticker was not asked
 pub record HasGroupsRun (p : Parted) (h : Happened) : Type 0 where
   pub outcomes : List Outcome

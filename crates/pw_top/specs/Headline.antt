@@ -31,8 +31,9 @@ pub record Follows (a : Answer) (before now : Outside) (status : Status) : Type 
   pub text : TextFollows (text_of a.outcome) before.put_faults now.put_faults
       before.given now.given status
 
--- TOLD: where the files tell what they hold, there is an answer that is expected of the words, by
--- what happened and by what is held; files, output and status follow it; and so does the run
+-- REPORTED: where the files report what they hold, there is an answer that is expected of the
+-- words, by what happened and by what is held; files, output and status follow it; and so does the
+-- run
 abbrev pub IsTold : Words → Outside → Outside → Happened → Status → Type 0
 IsTold words before now h status = IsSome before.held → (a : Answer)
     × IsAnswer words h (names_in before.held) a

@@ -30,7 +30,7 @@ joined_plan count p = record {
   lines = p.lines;
 }
 
--- what several runs have left, one behind the other
+-- what several runs have left, one after the other
 abbrev pub all_of : List Outcome → Outcome
 all_of outcomes = record {
   history = flat_map (λ o. o.history) outcomes;

@@ -32,13 +32,13 @@ pub record DifferInEvents (v w : Work) : Type 0 where
   pub other : w.text ≡ run_text_of plan (Some others) outcome
 
 -- ALIKE: the same; or, where event lines are wanted, after the same loads two works that differ in
--- event lines alone
+-- only event lines
 abbrev pub AreAlike : Bool → Answer → Answer → Type 0
 AreAlike false a b = a ≡ b
 AreAlike true a b = (a ≡ b) ⊎ ((a.loads ≡ b.loads) × (v : Work) × (w : Work)
     × (a.outcome ≡ Ok v) × (b.outcome ≡ Ok w) × DifferInEvents v w)
 
--- THE ORDER SHOWS IN EVENTS ALONE: whatever happened in two calls with these words on the same
+-- THE ORDER SHOWS ONLY IN EVENTS: whatever happened in two calls with these words on the same
 -- files, their answers, where memory was not short, are alike
 abbrev pub OrderShowsInEventsAlone : Words → Type 0
 OrderShowsInEventsAlone words = (names : Names) (h k : Happened) (a b : Answer)

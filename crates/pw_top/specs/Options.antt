@@ -1,4 +1,4 @@
--- The options of `run`, behind its script: each at most once, in any order, its value as the next
+-- The options of `run`, after its script: each at most once, in any order, its value as the next
 -- word. What the words so far say, one after the other.
 -- Source: this project's own grammar, docs/FORMATS.md.
 use Rattle.std.specs.Prelude.{ℕ, ◌≤◌, ◌+◌, ◌&&◌, Bool, true, false, not, if◌then◌else◌, List, codes, bytes_eq, fold, Option, Some, None, IfSome, is_none, Result, Ok, Err}
@@ -20,7 +20,7 @@ abbrev pub words_for_flag : Bool → ℕ
 words_for_flag true = 1
 words_for_flag false = 0
 
--- the index of the word behind them, which `run` and the script stand before
+-- the index of the word after them, which `run` and the script are before
 abbrev pub place_after : Options → ℕ
 place_after o = 2 + words_for o.loops + words_for o.ticks
     + (words_for_flag o.trace + words_for_flag o.steal)
@@ -36,7 +36,7 @@ begun o word =
     then Whole (record o { steal = true })
     else Fault (place_after o))))
 
--- a value comes
+-- a value is read
 abbrev pub loops_given : Options → Option ℕ → Said
 loops_given o None = Fault (place_after o + 1)
 loops_given o (Some n) = Whole (record o { loops = Some n })
@@ -52,7 +52,7 @@ said_after (WantsLoops o) word = loops_given o (number_of 0 loops_limit word)
 said_after (WantsTicks o) word = ticks_given o (number_of 1 1000000 word)
 said_after (Fault index) word = Fault index
 
--- at the end no value is to come
+-- at the end no value is expected
 abbrev pub options_in : Said → Result Options ℕ
 options_in (Whole o) = Ok o
 options_in (WantsLoops o) = Err (place_after o + 1)

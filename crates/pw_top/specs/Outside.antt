@@ -1,5 +1,5 @@
--- The outside of a call at one moment, as far as it tells: what the files hold, what the output was
--- given, and how many loads, stores and puts have failed.
+-- The outside of a call at one moment, as far as it reports: what the files hold, what the output
+-- was given, and how many loads, stores and puts have failed.
 -- Source: this project's own.
 use Rattle.std.specs.Prelude.{ℕ}
 use Rattle.pw_outside.specs.Files.{Held}

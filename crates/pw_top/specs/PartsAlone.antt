@@ -1,5 +1,5 @@
--- What all parts of a script store, and their peaks: node by node what each does by its own lines
--- alone. Source: this project's own.
+-- What all parts of a script store, and their peaks: node by node what each does by only its own
+-- lines. Source: this project's own.
 use Rattle.std.specs.Prelude.{◌≡◌, ℕ, List, Option, None, Ok, Contains, option_map}
 use Rattle.wav_files.specs.declared.outcome.Kept.{Kept}
 use Rattle.graph_script.specs.declared.script.Line.{Line}

@@ -58,7 +58,7 @@ pub record AreSoundInputs (inputs : PlanInputs) : Type 0 where
   pub waves : HaveWaves inputs.ports inputs.waves
   pub used : inputs.used ≤ all_wav_bytes_limit
 
--- sound after a line too, with the node that it made behind the others
+-- sound after a line too, with the node that it made after the others
 pub record AreInputsAfter (inputs : PlanInputs) (made : Option Kind) (after : PlanInputs)
     : Type 0 where
   pub sound : AreSoundInputs after

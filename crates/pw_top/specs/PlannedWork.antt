@@ -1,4 +1,4 @@
--- What a script is planned to, and what its run stores and tells.
+-- The plan of a script, and the files and text of its run.
 -- Source: PipeWire's documentation, "Graph Scheduling"; scripts are this project's.
 use Rattle.std.specs.Prelude.{◌≡◌, Bool, true, false, List, [], map, All, Option, Some, None, Result, Ok, Err}
 use Rattle.pw_graph.specs.declared.event.Event.{Event}

@@ -1,5 +1,5 @@
 -- What happened in a call: the run that it made, if it made one, and what the answer and the status
--- tell of it.
+-- report of it.
 -- Source: PipeWire's documentation, "Graph Scheduling"; boards are this project's own.
 use Rattle.std.specs.Prelude.{◌≡◌, ◌⊎◌, ℕ, List, [], Result, Ok, Err, IsSome}
 use Rattle.pw_graph.specs.declared.event.Event.{Event}
@@ -63,14 +63,14 @@ PlayEnds outcome h (Ok work) = Unit {0}
 PlayEnds outcome h (Err S.Memory) = IsNothing h ⊎ (status_of outcome ≡ S.Ok)
 PlayEnds outcome h (Err status) = IsNothing h
 
--- THE RESULT of a command is the end of an answer that is allowed, which tells what happened
+-- THE RESULT of a command is the end of an answer that is allowed, which says what happened
 pub record Plays (P : Answer → Type 0) (h : Happened) (r : Result Work Status) : Type 0 where
   pub answer : Answer
   pub allowed : P answer
   pub ends : IsEndOf answer r
   pub played : PlayEnds answer.outcome h r
 
--- where it is told what the files hold
+-- where the files report what they hold
 abbrev pub TellsPlay : Held → (Names → Answer → Type 0) → Happened → Result Work Status
     → Type 0
 TellsPlay held P h result = IsSome held → Plays (P (names_in held)) h result

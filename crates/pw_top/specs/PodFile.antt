@@ -1,5 +1,5 @@
 -- A file that holds one POD: its value, or why it is refused at a place. A file may not go on
--- behind its POD.
+-- after its POD.
 -- Source: PipeWire's documentation, "SPA POD"; the refusals are this project's own.
 use Rattle.std.specs.Prelude.{◌≡◌, ◌⊎◌, ℕ, ◌<◌, List, length, Result, Ok, Err}
 use Rattle.pod_codec.specs.declared.pod.Pod.{Pod}
@@ -31,7 +31,7 @@ abbrev pub IsNoPod : ℕ → List ℕ → Status → Type 0
 IsNoPod place bytes status = (fault : PodFault) × IsFirstFault bytes fault
     × (status ≡ pod_refusal place fault)
 
--- their front spells a POD, and bytes stand behind it
+-- their front spells a POD, and bytes follow it
 abbrev pub HasRest : ℕ → List ℕ → Status → Type 0
 HasRest place bytes status = (pod : Pod) × (size : ℕ) × FrontSpells bytes pod size
     × (size < length bytes)

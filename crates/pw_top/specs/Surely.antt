@@ -39,8 +39,8 @@ EndsSurely a names names' given given' status =
     IsDone a names names' given given' status
     ⊎ ((status ≡ S.Memory) × IsCutShort a names names' given given')
 
--- TOLD: there is an answer that is expected of the words, by what happened and by what is held; all
--- of it was done, or memory was short; and so was its run
+-- REPORTED: there is an answer that is expected of the words, by what happened and by what is held;
+-- all of it was done, or memory was short; and so was its run
 abbrev pub IsToldSurely : Words → Names → Names → List ℕ → List ℕ → Happened
     → Status → Type 0
 IsToldSurely words names names' given given' h status = (a : Answer)

@@ -46,7 +46,7 @@ abbrev pub groups_of : Result (List ℕ) Status → Result CommandLine Status
 groups_of (Ok script) = Ok (C.Groups (record { script = script }))
 groups_of (Err status) = Err status
 
--- the words behind `soak`: one number
+-- the words after `soak`: one number
 abbrev pub soak_with : Option ℕ → Words → Result CommandLine Status
 soak_with None rest = Err (S.Usage 1)
 soak_with (Some n) rest = then_nothing 2 rest (C.Soak (record { number = n }))

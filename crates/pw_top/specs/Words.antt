@@ -23,12 +23,12 @@ then_file index [] next = Err (S.Usage index)
 then_file index (file ∷ rest) next = if is_file_word file then next file rest
     else Err (S.Usage index)
 
--- nothing stands from an index on
+-- there is no word from an index on
 abbrev pub then_nothing : {T : Type 0} → ℕ → Words → T → Result T Status
 then_nothing index [] x = Ok x
 then_nothing index (more ∷ rest) x = Err (S.Usage index)
 
--- the words behind a command that has one file, two or three
+-- the words after a command that has one file, two or three
 unfoldable pub one_file : Words → Result (List ℕ) Status
 one_file words = then_file 1 words (λ file rest. then_nothing 2 rest file)
 

@@ -5,7 +5,7 @@ use pw_lists::Items;
 use wav_files::WavIn;
 
 /// The nodes that lines have made, with what their ports offer, and the waves of their sources,
-/// which came from files of `used` bytes together.
+/// which are from files of `used` bytes together.
 #[derive(Drop)]
 pub struct PlanInputs {
     pub ports: Ports,

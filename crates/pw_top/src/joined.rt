@@ -89,7 +89,7 @@ fn add_outcome(all: &mut Outcome, more: Outcome) -> Result<(), Memory>
     add_kept(&mut all.sinks, sinks)
 }
 
-/// What several runs have left, one behind the other.
+/// What several runs have left, one after the other.
 pub fn all_of(alloc: Global, outcomes: Items<Outcome>) -> Result<Outcome, Memory>
     ensures { IfOk result (λ all. all ≡ all_of outcomes) }
 {

@@ -25,9 +25,9 @@ pub struct Options {
 #[derive(Clone, Copy, Drop)]
 enum Said {
     Whole(Options),
-    /// The value of `--loops` is to come.
+    /// The value of `--loops` is expected.
     WantsLoops(Options),
-    /// The value of `--ticks` is to come.
+    /// The value of `--ticks` is expected.
     WantsTicks(Options),
     /// The index of the first word at fault.
     Fault(u32),
@@ -43,7 +43,7 @@ fn pair(value: Option<u32>) -> u32
     }
 }
 
-// The index of the word behind the options: `run`, the script and they stand before it.
+// The index of the word after the options: `run`, the script and they are before it.
 fn place_after(options: Options) -> u32
     ensures is { result ≡ place_after options }
     ensures few { result ≤ 8 }
@@ -81,7 +81,7 @@ fn begun(options: Options, word: &[u8]) -> Said
     }
 }
 
-// The value of `--loops` comes.
+// The value of `--loops` is read.
 fn loops_given(options: Options, word: &[u8]) -> Said
     ensures is { result ≡ loops_given options (number_of 0 loops_limit word.now) }
     ensures few { SaysFew result }
@@ -97,7 +97,7 @@ fn loops_given(options: Options, word: &[u8]) -> Said
     }
 }
 
-// The value of `--ticks` comes.
+// The value of `--ticks` is read.
 fn ticks_given(options: Options, word: &[u8]) -> Said
     requires few { HasFew options }
     ensures is { result ≡ ticks_given options (number_of 1 1000000 word.now) }
@@ -128,7 +128,7 @@ fn said_after(said: Said, word: &[u8]) -> Said
     }
 }
 
-// What is said at the end, where no value is to come.
+// What is said at the end, where no value is expected.
 fn options_in(said: Said) -> Result<Options, u32>
     requires few { SaysFew said }
     ensures is { result ≡ options_in said }
@@ -142,7 +142,7 @@ fn options_in(said: Said) -> Result<Options, u32>
     }
 }
 
-/// What the words behind a script say, or the index of the first at fault. Takes no memory.
+/// What the words after a script say, or the index of the first at fault. Takes no memory.
 #[tactic(auto, unfolding(crate::specs::Options::options_of))]
 pub fn read_options(words: &[String]) -> Result<Options, u32>
     ensures is { result ≡ options_of (map string_bytes words.now) }

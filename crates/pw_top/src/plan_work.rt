@@ -1,4 +1,4 @@
-//! What the run of a plan stores and tells.
+//! What the run of a plan stores and prints.
 
 ghost use Rattle.std.specs.Prelude.{◌≡◌, map, option_copied, IfOk, All};
 ghost use Rattle.pw_graph.specs.History.{IsLegalHistory};

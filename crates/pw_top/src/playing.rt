@@ -1,4 +1,4 @@
-//! A run of what a script is planned to.
+//! Runs the plan of a script.
 #![tactic(auto, using(crate::proofs::AllowedLemmas::parts))]
 
 ghost use Rattle.std.specs.Prelude.{◌≡◌, ◌≤◌, IfOk, OnErr, length};
@@ -29,7 +29,7 @@ pub struct Crew {
     pub steal: bool,
 }
 
-// A run of a plan by a crew, none of whom is adopted.
+// A run of a plan by a crew, no loop of which is adopted.
 fn run_by<R: Threads + Wait + Sync, G: Gate + Sync, K: Ticker>(
     rt: &R,
     alloc: Global,

@@ -83,7 +83,7 @@ fn put_part(line: &mut StatusLine, n: u32)
     put_number(line, n);
 }
 
-// Appends each number behind a blank, and the end of the line.
+// Appends each number after a blank, and the end of the line.
 fn put_numbers(line: &mut StatusLine, numbers: &[u32])
     requires { length line.old + 11 * length numbers.now + 1 ≤ 64 }
     ensures { line.new ≡ line.old ++ numbers_line numbers.now }
@@ -124,7 +124,7 @@ fn script_line(at: u32, why: ScriptWhy) -> StatusLine
     }
 }
 
-// The first seven faults of a POD, and a file that goes on behind it.
+// The first seven faults of a POD, and a file that goes on after it.
 fn pod_line(place: u32, why: PodWhy) -> StatusLine
     ensures { result ≡ line_of (Status.Pod place why) }
 {

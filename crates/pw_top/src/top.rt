@@ -100,11 +100,11 @@ pub struct Report {
 /// Does what the words of a command line ask for: loads, then stores, then the text, or the line of
 /// a status.
 ///
-/// The words are those behind the program's own name. An accepted command leaves exactly the files
+/// The words are those after the program's own name. An accepted command leaves exactly the files
 /// and the text of its expected answer. Every other status says how far that answer was followed
 /// and why it stopped: a refusal is the answer's own; `ReadFault`, and `WriteFault` with its place,
-/// come only where the outside counted a fault in this call; `Memory` may come at any step. The
-/// line of a status is put last, and nothing is put after a failed put.
+/// are answered only where the outside counted a fault in this call; `Memory` may come at any step.
+/// The line of a status is put last, and nothing is put after a failed put.
 ///
 /// With `run`, the history and the closed boards are those of a run of the script's plan by the
 /// loops that the words name, and with `soak` of the plan of the number's script by four: one board
@@ -121,12 +121,13 @@ pub fn run_words<R: Threads + Wait + Sync, F: Files, O: Sink, G: Gate + Sync, K:
     gate: &G,
     ticker: &mut K,
 ) -> Report
-    // An expected answer, which files, text, status and run follow, where the files are told.
+    // An expected answer, which files, text, status and run follow, where the files report them.
     ensures told { IsTold (map string_bytes words.now)
         (outside F.Files O.Sink files.old out.old) (outside F.Files O.Sink files.new out.new)
         (reported result (K.ticks ticker.old) (K.ticks ticker.new)) result.status }
 
-    // Each fault has its cause outside, and Usage in the words, whether the files are told or not.
+    // Each fault has its cause outside, and Usage in the words, whether the files are reported or
+    // not.
     ensures cause { Caused (outside F.Files O.Sink files.old out.old)
         (outside F.Files O.Sink files.new out.new) result.status }
     ensures usage { IsUsage (command_of (map string_bytes words.now)) result.status }

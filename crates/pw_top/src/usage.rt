@@ -66,7 +66,7 @@ fn name_of(alloc: Global, word: &String) -> Result<Text, Status>
     }
 }
 
-// The one file behind a command.
+// The one file after a command.
 #[tactic(auto, unfolding(crate::specs::Words::one_file))]
 fn one_file(alloc: Global, rest: &[String]) -> Result<Text, Status>
     ensures { IsRead (one_file (map string_bytes rest.now)) result }
@@ -103,7 +103,7 @@ fn names_of(alloc: Global, a: &String, b: &String, c: &String) -> Result<FileWor
     }
 }
 
-// The third file, and nothing behind it.
+// The third file, and nothing after it.
 fn third_file(alloc: Global, a: &String, b: &String, rest: &[String]) -> Result<FileWords, Status>
     ensures { IsRead (then_file 3 (map string_bytes rest.now)
         (λ c rest. then_nothing 4 rest (record
@@ -123,7 +123,7 @@ fn third_file(alloc: Global, a: &String, b: &String, rest: &[String]) -> Result<
     }
 }
 
-// The second file and what stands behind it.
+// The second file and what is after it.
 fn second_file(alloc: Global, a: &String, rest: &[String]) -> Result<FileWords, Status>
     ensures { IsRead (then_file 2 (map string_bytes rest.now)
         (λ b outs. then_file 3 outs (λ c rest. then_nothing 4 rest
@@ -141,7 +141,7 @@ fn second_file(alloc: Global, a: &String, rest: &[String]) -> Result<FileWords, 
     }
 }
 
-// The three files behind a command.
+// The three files after a command.
 #[tactic(auto, unfolding(crate::specs::Words::three_files))]
 fn three_files(alloc: Global, rest: &[String]) -> Result<FileWords, Status>
     ensures { IsRead (three_files (map string_bytes rest.now)) result }
@@ -171,7 +171,7 @@ fn pair_of(alloc: Global, a: &String, b: &String) -> Result<FilePair, Status>
     }
 }
 
-// The second of two files, and nothing behind it.
+// The second of two files, and nothing after it.
 fn last_file(alloc: Global, a: &String, rest: &[String]) -> Result<FilePair, Status>
     ensures { IsRead (then_file 2 (map string_bytes rest.now)
         (λ b rest. then_nothing 3 rest (record
@@ -191,7 +191,7 @@ fn last_file(alloc: Global, a: &String, rest: &[String]) -> Result<FilePair, Sta
     }
 }
 
-// The two files behind a command.
+// The two files after a command.
 #[tactic(auto, unfolding(crate::specs::Words::two_files))]
 fn two_files(alloc: Global, rest: &[String]) -> Result<FilePair, Status>
     ensures { IsRead (two_files (map string_bytes rest.now)) result }
@@ -228,7 +228,7 @@ fn run_with(alloc: Global, script: &String, options: Options) -> Result<CommandL
     }
 }
 
-// `run SCRIPT` with its options, behind its first word.
+// `run SCRIPT` with its options, after its first word.
 #[tactic(auto, unfolding(crate::specs::Usage::run_of))]
 fn read_run(alloc: Global, rest: &[String]) -> Result<CommandLine, Status>
     ensures read { IsRead (run_of (map string_bytes rest.now)) result }
@@ -248,7 +248,7 @@ fn read_run(alloc: Global, rest: &[String]) -> Result<CommandLine, Status>
     }
 }
 
-// `dump FILE`, behind its first word.
+// `dump FILE`, after its first word.
 fn read_dump(alloc: Global, rest: &[String]) -> Result<CommandLine, Status>
     ensures { IsRead (dump_of (one_file (map string_bytes rest.now))) result }
 {
@@ -258,7 +258,7 @@ fn read_dump(alloc: Global, rest: &[String]) -> Result<CommandLine, Status>
     }
 }
 
-// `filter A B OUT`, behind its first word.
+// `filter A B OUT`, after its first word.
 fn read_filter(alloc: Global, rest: &[String]) -> Result<CommandLine, Status>
     ensures { IsRead (filter_of (three_files (map string_bytes rest.now))) result }
 {
@@ -278,7 +278,7 @@ fn read_filter(alloc: Global, rest: &[String]) -> Result<CommandLine, Status>
     }
 }
 
-// `automate IN SEQ OUT`, behind its first word.
+// `automate IN SEQ OUT`, after its first word.
 fn read_automate(alloc: Global, rest: &[String]) -> Result<CommandLine, Status>
     ensures { IsRead (automate_of (three_files (map string_bytes rest.now))) result }
 {
@@ -298,7 +298,7 @@ fn read_automate(alloc: Global, rest: &[String]) -> Result<CommandLine, Status>
     }
 }
 
-// `check SCRIPT TRACE`, behind its first word.
+// `check SCRIPT TRACE`, after its first word.
 fn read_check(alloc: Global, rest: &[String]) -> Result<CommandLine, Status>
     ensures { IsRead (check_of (two_files (map string_bytes rest.now))) result }
 {
@@ -311,7 +311,7 @@ fn read_check(alloc: Global, rest: &[String]) -> Result<CommandLine, Status>
     }
 }
 
-// `soak NUMBER`, behind its first word. Takes no memory.
+// `soak NUMBER`, after its first word. Takes no memory.
 #[tactic(auto, unfolding(crate::specs::Usage::soak_of))]
 fn read_soak(rest: &[String]) -> Result<CommandLine, Status>
     ensures read { IsRead (soak_of (map string_bytes rest.now)) result }
@@ -332,7 +332,7 @@ fn read_soak(rest: &[String]) -> Result<CommandLine, Status>
     }
 }
 
-// `groups SCRIPT`, behind its first word.
+// `groups SCRIPT`, after its first word.
 fn read_groups(alloc: Global, rest: &[String]) -> Result<CommandLine, Status>
     ensures read { IsRead (groups_of (one_file (map string_bytes rest.now))) result }
     ensures few { IfOk result HasFewLoops }
@@ -373,7 +373,7 @@ pub fn read_words(alloc: Global, words: &[String]) -> Result<CommandLine, Status
     }
 }
 
-// The same behind the word `run`.
+// The same after the word `run`.
 #[tactic(auto, unfolding(crate::specs::Usage::run_of))]
 fn ticks_behind(rest: &[String]) -> u32
     ensures { result ≡ ticks_in (run_of (map string_bytes rest.now)) }

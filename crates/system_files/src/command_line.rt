@@ -12,7 +12,7 @@ const NO_TEXT: u8 = 1;
 
 const NO_MEMORY: u8 = 9;
 
-/// The words behind the program's own name, or the status to end with: 1 where they are no text, 9
+/// The words after the program's own name, or the status to end with: 1 where they are no text, 9
 /// where there is no memory for them.
 pub fn words_of<R: Env + Alloc<A = Global>>(rt: &R) -> Result<Items<String>, u8> {
     let mut words = Items::new(rt.alloc());
@@ -35,10 +35,10 @@ pub fn words_of<R: Env + Alloc<A = Global>>(rt: &R) -> Result<Items<String>, u8>
     }
 }
 
-// The longest word that Linux gives a program, with the byte behind it.
+// The longest word that Linux gives a program, with the byte after it.
 const LONGEST_WORD: usize = 131_072;
 
-// Whether the word of this number is no text; none where there is no such word.
+// Whether the word of this number is no text; None where there is no such word.
 fn is_without_text<R: Env>(rt: &R, number: u32, room: &mut [u8]) -> Option<bool> {
     match rt.arg(number as usize, room) {
         Ok(len) => Some(str::from_utf8(&room[..len]).is_err()),
@@ -47,7 +47,7 @@ fn is_without_text<R: Env>(rt: &R, number: u32, room: &mut [u8]) -> Option<bool>
     }
 }
 
-/// The first word behind the program's own name that is no text in UTF-8, counted from 1. None
+/// The first word after the program's own name that is no text in UTF-8, counted from 1. None
 /// where all are text, and where there is no memory to read them.
 pub fn first_without_text<R: Env + Alloc<A = Global>>(rt: &R) -> Option<u32> {
     let Ok(mut room) = Items::filled(rt.alloc(), LONGEST_WORD, 0) else {

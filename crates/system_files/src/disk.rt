@@ -7,8 +7,8 @@ use std::fs::OpenFile;
 use std::io::{Read, Write};
 use std::{fs, io, rt};
 
-/// Files by path. Contracts see what is held, where that is told: of a file that is written, from
-/// the moment on that it is given back.
+/// Files by path. Contracts see what is held, where the disk reports it: of a file that is written,
+/// from the moment on that it is given back.
 pub trait Disk {
     type Source: Read + OpenFile + Drop;
 
@@ -18,7 +18,7 @@ pub trait Disk {
 
     ghost held: { Self → Held };
 
-    /// The file of this path, to be read. `NotFound` is said of a file that is not there alone.
+    /// The file of this path, to be read. `NotFound` is said only of a file that is not there.
     fn open(&mut self, path: &str) -> io::Result<Self::Source>
         ensures held { held self.new ≡ held self.old }
         ensures told { IsSome (held self.old)
@@ -31,10 +31,11 @@ pub trait Disk {
 
     /// Takes the file of this path back.
     fn give_back(&mut self, path: &str, file: Self::Target)
-        ensures { IsGivenBack path.now (Self.Target.contents file) (held self.old) (held self.new) };
+        ensures { IsGivenBack path.now (Self.Target.contents file) (held self.old)
+            (held self.new) };
 }
 
-/// The system's files, relative to the folder that the program runs in. They tell nothing of what
+/// The system's files, relative to the folder that the program runs in. They report nothing of what
 /// they hold.
 #[derive(Drop)]
 pub struct SystemDisk<'a, R> {

@@ -1,4 +1,4 @@
-//! Files by name over a disk. They tell nothing of what they hold; a call that fails raises its
+//! Files by name over a disk. They report nothing of what they hold; a call that fails raises its
 //! count.
 ghost use Rattle.std.specs.Prelude.{◌≡◌, ℕ, ◌+◌, ◌≤◌, ◌<◌, ◌^◌, ◌++◌, [], take, length, IfOk, IsSome};
 ghost use Rattle.std.specs.Io.KnownBytes.{Consumes, IsAtEnd};
@@ -69,7 +69,7 @@ fn read_more<F: Read>(
     bytes: &mut Items<u8>,
 ) -> Result<usize, FileFail>
     ensures bound { IfOk result (λ n. n ≤ length chunk.old) }
-    // What is appended comes from the beginning of what the file has left; nothing comes only at
+    // What is appended is from the beginning of what the file has left; nothing is appended only at
     // its end.
     ensures more { IfOk result
         (λ n. (length chunk.new ≡ length chunk.old)
@@ -220,7 +220,7 @@ impl<D: Disk> Files for DiskFiles<D> {
         ensures later { self.old.load_faults ≤ self.new.load_faults }
         ensures cause { HasCause self.old.load_faults self.new.load_faults result }
         ensures stores { self.new.store_faults ≡ self.old.store_faults }
-        // What the disk holds stays, and decides, where the disk tells it.
+        // What the disk holds stays, and decides, where the disk reports it.
         ensures disk { D.held self.new.disk ≡ D.held self.old.disk }
         ensures told_disk { IsSome (D.held self.old.disk)
             → IsLoaded (names_in (D.held self.old.disk) name.now) limit result }

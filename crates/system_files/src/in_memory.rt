@@ -1,5 +1,5 @@
-//! For tests: a disk, its files and words in memory, whose calls take what they are told and fail
-//! where they are told.
+//! For tests: a disk, its files and words in memory, whose calls take what they are given and fail
+//! where they are asked to.
 ghost use Rattle.std.specs.Prelude.{◌≤◌, IfOk};
 
 use crate::disk::Disk;
@@ -28,7 +28,7 @@ pub(crate) fn by(most: usize) -> Manner {
     }
 }
 
-/// Bytes that are read from the first on, and written behind the last.
+/// Bytes that are read from the first on, and written after the last.
 #[derive(Drop)]
 pub(crate) struct MemFile {
     pub bytes: Items<u8>,

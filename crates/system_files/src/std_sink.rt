@@ -1,4 +1,4 @@
-//! Standard output, or the error output. It tells nothing of what it was given; a call that fails
+//! Standard output, or the error output. It reports nothing of what it was given; a call that fails
 //! raises its count.
 ghost use Rattle.std.specs.Prelude.{◌≡◌, ℕ, ◌≤◌};
 ghost use Rattle.system_files.specs.KnownFiles.{WritesWhole};

@@ -1,4 +1,4 @@
--- Bytes of a dump's line, two lower-case digits of base 16 each, and what stands between quotes.
+-- Bytes of a dump's line, two lower-case digits of base 16 each, and what is between quotes.
 -- Source: this project's own.
 use Rattle.std.specs.Prelude.{ℕ, ◌+◌, ◌-◌, ◌*◌, ◌==◌, ◌&&◌, nat_le, if◌then◌else◌, List, [], ◌∷◌, length}
 use Rattle.std.specs.Prelude.{Option, Some, None, option_map, option_and_then}
@@ -35,7 +35,7 @@ four_said bytes = if length bytes == 4 then Some (from_be_bytes w32 bytes) else 
 abbrev pub eight_said : List ℕ → Option ℕ
 eight_said bytes = if length bytes == 8 then Some (from_be_bytes w64 bytes) else None
 
--- what stands between two quotes
+-- what is between two quotes
 abbrev pub inner_of : Option (List ℕ × List ℕ) → Option (List ℕ)
 inner_of None = None
 inner_of (Some c) = if length c.1 == 0 then Some c.0 else None

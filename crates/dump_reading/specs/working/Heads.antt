@@ -29,7 +29,7 @@ abbrev pub choice_in : Option (List ℕ × List ℕ) → Option Head
 choice_in None = None
 choice_in (Some c) = choice_with (kind_said c.0) (triple_said c.1)
 
--- what stands behind the name of a value
+-- what is after the name of a value
 unfoldable pub args_said : Name → List ℕ → Option Head
 args_said N.Bool args = option_map (λ b. H.Leaf (P.Bool b)) (bool_said args)
 args_said N.Id args = option_map (λ n. H.Leaf (P.Id n)) (number_said args)

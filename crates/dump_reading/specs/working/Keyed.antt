@@ -9,7 +9,7 @@ use Rattle.dump_reading.specs.working.Cutting.{cut_at}
 use Rattle.dump_reading.specs.working.Lines.{line_said}
 use Rattle.dump_reading.specs.working.Numbers.{pair_said}
 
--- the two numbers behind a word
+-- the two numbers after a word
 abbrev pub behind_word : List ℕ → Option (List ℕ × List ℕ) → Option (ℕ × ℕ)
 behind_word word None = None
 behind_word word (Some c) = if bytes_eq c.0 word then pair_said 32 c.1 else None
@@ -17,7 +17,7 @@ behind_word word (Some c) = if bytes_eq c.0 word then pair_said 32 c.1 else None
 unfoldable pub numbers_said : List ℕ → List ℕ → Option (ℕ × ℕ)
 numbers_said word words = behind_word word (cut_at 32 words)
 
--- two numbers, and the lines behind them
+-- two numbers, and the lines after them
 abbrev pub numbers_with : List ℕ → Option (ℕ × ℕ) → Option ((ℕ × ℕ) × List ℕ)
 numbers_with rest None = None
 numbers_with rest (Some n) = Some (n, rest)

@@ -11,11 +11,11 @@ abbrev pub line_in : ℕ → Option (List ℕ × List ℕ) → Option (List ℕ 
 line_in level None = None
 line_in level (Some c) = with_rest c.1 (behind_spaces (2 * level) c.0)
 
--- the words of the first line, at a level, and the lines behind it
+-- the words of the first line, at a level, and the lines after it
 unfoldable pub line_said : ℕ → List ℕ → Option (List ℕ × List ℕ)
 line_said level text = line_in level (cut_at 10 text)
 
--- n things, one after the other, behind those so far
+-- n things, one after the other, after those so far
 unfoldable pub many : {X : Type 0} → (List ℕ → Option (X × List ℕ)) → ℕ → List X
     → List ℕ → Option (List X × List ℕ)
 many read zero so_far text = Some (so_far, text)

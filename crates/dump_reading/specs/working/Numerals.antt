@@ -7,7 +7,7 @@ use Rattle.std.specs.List.{list_all}
 abbrev pub is_digit : ℕ → Bool
 is_digit b = nat_le 0x30 b && nat_le b 0x39
 
--- digits, at least one, the first not 0 unless it is alone
+-- digits, at least one, the first not 0 unless it is the only one
 abbrev pub is_numeral : List ℕ → Bool
 is_numeral [] = false
 is_numeral (first ∷ rest) =

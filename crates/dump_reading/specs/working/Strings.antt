@@ -7,7 +7,7 @@ use Rattle.dump_reading.specs.working.Bytes.{digit_said, unquoted}
 use Rattle.dump_reading.specs.declared.strings.Escape.{Escape}
 use Rattle.dump_reading.specs.declared.strings.Escape.TheVariants as E
 
--- the next byte of a string: where it stands behind it, and the byte that is whole with it
+-- the next byte of a string: where the string is after it, and the byte that is whole with it
 abbrev pub high_of : Option ℕ → Option (Escape × Option ℕ)
 high_of None = None
 high_of (Some h) = Some (E.High h, None)

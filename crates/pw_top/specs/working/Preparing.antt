@@ -1,4 +1,4 @@
--- What a part of a command does with the files before any store: it loads, and tells how it ends.
+-- What a part of a command does with the files before any store: it loads, and says how it ends.
 -- Source: this project's own.
 use Rattle.std.specs.Prelude.{◌≡◌, ℕ, ◌≤◌, Result, IsSome}
 use Rattle.pw_outside.specs.Files.{Names, Held, names_in}
@@ -13,7 +13,7 @@ pub record LoadsOnly (names names' : Held) (faults faults' made made' : ℕ) : T
   pub later : faults ≤ faults'
   pub stores : made' ≡ made
 
--- where it is told what the files hold, the result is the end of an answer that this allows
+-- where the files report what they hold, the result is the end of an answer that this allows
 abbrev pub Tells : {T : Type 0} → Held → (Names → Expected T → Type 0) → Result T Status
     → Type 0
 Tells held P result = IsSome held → Ends (P (names_in held)) result

@@ -1,4 +1,4 @@
--- The digits that are left, behind the bytes so far, make the row.
+-- The digits that are left, after the bytes so far, make the row.
 use Rattle.std.proofs.Common.{◌≡◌, length}
 use Rattle.dump_reading.specs.working.Bytes.{hex_said}
 use Rattle.dump_reading.proofs.ByteLoops.{behind}

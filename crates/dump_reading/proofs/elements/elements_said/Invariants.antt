@@ -1,4 +1,4 @@
--- The values that are left, behind those so far, are all.
+-- The values that are left, after those so far, are all.
 use Rattle.std.proofs.Common.{◌≡◌, ◌-◌, []}
 use Rattle.dump_reading.specs.working.Lines.{many}
 use Rattle.dump_reading.specs.Values.{element_said}

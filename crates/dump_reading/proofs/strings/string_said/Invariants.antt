@@ -1,4 +1,4 @@
--- The bytes that are left, from where the string stands, make the string.
+-- The bytes that are left, from where the string is, make the string.
 use Rattle.std.proofs.Common.{◌≡◌, [], drop}
 use Rattle.std.specs.Prelude.{Some, fold}
 use Rattle.dump_reading.specs.working.Strings.{read_byte}

@@ -1,4 +1,4 @@
--- What is left, behind what was read so far, is all; and each call has fewer levels left.
+-- What is left, after what was read so far, is all; and each call has fewer levels left.
 use Rattle.std.proofs.Common.{◌≡◌, ◌+◌, ◌-◌, ◌*◌, []}
 use Rattle.dump_reading.specs.working.Keyed.{prop_said, control_said}
 use Rattle.dump_reading.specs.working.Lines.{many}

@@ -3,7 +3,7 @@ use Rattle.cycle_trace.specs.TraceReading.{trace_lines}
 use Rattle.graph_pictures.specs.Refusals.{told_links}
 use Rattle.graph_pictures.proofs.refusals.next_told.Given as goal
 
--- no line before tells of a link
+-- no line before is of a link
 abbrev pub invariant-loop-line : goal.invariant-loop-line
 invariant-loop-line l = told_links (trace_lines l.rest) ≡ told_links (trace_lines l.fn.text)
 

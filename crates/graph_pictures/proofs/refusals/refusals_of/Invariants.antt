@@ -3,7 +3,7 @@ use Rattle.cycle_trace.specs.TraceReading.{trace_lines}
 use Rattle.graph_pictures.specs.Refusals.{told_links, refusals}
 use Rattle.graph_pictures.proofs.refusals.refusals_of.Given as goal
 
--- what was told, and what is left
+-- what was said, and what is left
 abbrev pub invariant-loop-rest : goal.invariant-loop-rest
 invariant-loop-rest l =
     l.refused ++ refusals l.rest (told_links (trace_lines l.left)) ≡ refusals l.numbers (told_links (trace_lines l.run))

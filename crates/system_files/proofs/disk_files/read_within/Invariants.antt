@@ -2,7 +2,7 @@ use Rattle.std.proofs.Common.{◌+◌, ◌≤◌, ◌-◌, length}
 use Rattle.std.specs.Io.KnownBytes.{Consumes}
 use Rattle.system_files.proofs.disk_files.read_within.Given as goal
 
--- what was read came from the front of what the file had
+-- what was read is from the front of what the file had
 abbrev pub invariant-loop-bytes : goal.invariant-loop-bytes
 invariant-loop-bytes g l = (length l.bytes ≤ l.limit + 1)
     × Consumes (g.F.Read.remaining l.initial.file) (g.F.Read.remaining l.file) l.bytes
