@@ -8,7 +8,8 @@ use pw_lists::{Items, Memory};
 use std::alloc::Global;
 use std::test::Fail;
 
-// The event of cycle 0 that a letter names: [ and ] are Begin and End, A is the Start of node 0 and a its Finish,
+// The event of cycle 0 that a letter names: [ and ] are Begin and End, A is the Start of node 0 and
+// a its Finish,
 // - is a Tick without a late node, and a digit a Tick with that one; ? and ! are of cycle 1.
 fn event_named(letter: u8) -> Event {
     match letter {

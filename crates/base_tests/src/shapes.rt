@@ -7,7 +7,8 @@ use pw_lists::Memory;
 use std::alloc::Global;
 use std::test::Fail;
 
-/// A source 0, a split 1, a mixer 2 and a sink 3 that drives; two links go from the split to the mixer.
+/// A source 0, a split 1, a mixer 2 and a sink 3 that drives; two links go from the split to the
+/// mixer.
 pub(crate) const TWO_LINKS: ShapeRow<'static> = ShapeRow {
     quantum: 4,
     first: 0,
@@ -41,14 +42,14 @@ const PAIR: ShapeRow<'static> = ShapeRow {
     ..NO_LINK
 };
 
-/// The built-in driver alone.
+/// Only the built-in driver.
 pub(crate) const DRIVER_ALONE: ShapeRow<'static> = ShapeRow {
     driver: DUMMY,
     nodes: &[(DUMMY, 1, &[DUMMY])],
     ..NO_LINK
 };
 
-/// Node 0 alone.
+/// Only node 0.
 pub(crate) const NODE_ALONE: ShapeRow<'static> = ShapeRow {
     driver: 0,
     nodes: &[(0, 1, &[0])],
@@ -235,7 +236,8 @@ fn there_are_at_most_256_links(rt: HostRuntime) -> Result<(), Fail> {
     Ok(())
 }
 
-/// The worked shape with quanta of 5 frames and one buffer at its first port, from where a link goes that is late.
+/// The worked shape with quanta of 5 frames and one buffer at its first port, from where a link
+/// goes that is late.
 const POOLED: ShapeRow<'static> = ShapeRow {
     quantum: 5,
     links: &[

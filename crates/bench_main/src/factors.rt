@@ -5,7 +5,7 @@ ghost use Rattle.s16_mixer.specs.Ranges.{IsGain};
 use pw_lists::{Items, Memory};
 use std::alloc::Global;
 
-/// The gains that the words spell. Words that spell none are left out.
+/// The gains that the words spell. Words that spell no gain are left out.
 pub fn factors_of(alloc: Global, words: &[String]) -> Result<Items<i32>, Memory>
     ensures { IfOk result (All IsGain) }
 {

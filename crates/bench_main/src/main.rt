@@ -1,6 +1,8 @@
-//! Runs a piece of work again and again, and prints a checksum of what it leaves: `WORK SAMPLES REPEATS
-//! GAIN..`, where the work is a sample kernel, a fill, a WAV file written or read, bytes scanned or read as a POD, the points of a control
-//! sequence or a stream by them, and `all` names each. It tells no time: a script does.
+//! Runs a piece of work again and again, and prints a checksum of what it leaves: `WORK SAMPLES
+//! REPEATS
+//! GAIN..`, where the work is a sample kernel, a fill, a WAV file written or read, bytes scanned or
+//! read as a POD, the points of a control sequence or a stream by them, and `all` names each. It
+//! measures no time: a script does.
 #![tactic(auto)]
 
 mod automation;
@@ -130,7 +132,8 @@ fn checksum_of(
     }
 }
 
-/// Runs those of the works that the words name, or all, and prints a line for each. Whether all went well.
+/// Runs those of the works that the words name, or all, and prints a line for each. Whether all
+/// went well.
 fn run_some<R: Print + Alloc<A = Global>>(rt: &R, works: &[&str], words: &[String]) -> bool {
     let [name, n, repeats, gains @ ..] = words else {
         return false;

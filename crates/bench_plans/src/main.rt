@@ -1,5 +1,6 @@
-//! Plans a script again and again, or reads it alone, and prints a checksum: `MODE WORK COUNT REPEATS`, where the
-//! mode is `plan` or `read`, and the work is `epochs` or `lines`. It tells no time: a script does.
+//! Plans a script again and again, or only reads it, and prints a checksum: `MODE WORK COUNT
+//! REPEATS`, where the mode is `plan` or `read`, and the work is `epochs` or `lines`. It measures
+//! no time: a script does.
 #![tactic(auto)]
 
 mod rounds;

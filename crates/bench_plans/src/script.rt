@@ -1,4 +1,4 @@
-//! A script of 63 nodes and 256 links, and lines behind it.
+//! A script of 63 nodes and 256 links, and lines after it.
 
 use pw_lists::Memory;
 use std::alloc::Global;
@@ -36,8 +36,8 @@ fn put_links(alloc: Global, text: &mut String) -> Result<(), Memory> {
     Ok(())
 }
 
-// Appends six lines that say something of the nodes of one number and of the link between two, and make
-// no epoch.
+// Appends six lines that say something of the nodes of one number and of the link between two, and
+// make no epoch.
 fn put_six(alloc: Global, text: &mut String, k: u32) -> Result<(), Memory> {
     let nodes = format!(in alloc; "off g{k}\non g{k}\nbuffers m{k} in 2\n")?;
     text.push_str(nodes.as_str())?;
@@ -48,8 +48,8 @@ fn put_six(alloc: Global, text: &mut String, k: u32) -> Result<(), Memory> {
     Ok(())
 }
 
-/// The graph with `count` epochs of one cycle, or with one epoch behind `6 * count` lines that make
-/// none.
+/// The graph with `count` epochs of one cycle, or with one epoch after `6 * count` lines that make
+/// no epoch.
 pub fn script_of(alloc: Global, work: &str, count: u32) -> Result<String, Memory> {
     let mut text = String::from_str(alloc, "quantum 1\n")?;
     put_nodes(alloc, &mut text)?;

@@ -1,4 +1,5 @@
-//! The kernel of each kind, as often as a node of it calls it; copies, a ring and a plain loop where there is none.
+//! The kernel of each kind, as often as a node of it calls it; copies, a ring and a plain loop
+//! where there is none.
 ghost use Rattle.std.specs.Prelude.{◌≡◌, ◌*◌, ◌<◌, ◌≤◌, length, All};
 ghost use Rattle.pw_graph.specs.Limits.{quantum_limit};
 ghost use Rattle.s16_mixer.specs.Ranges.{IsGain};
@@ -139,8 +140,8 @@ fn square_run(left: &mut [i16]) {
     }
 }
 
-/// One run of a kind's kernel; nothing for an unknown name. Answers the peak of a meter. `one` is 1, known at run
-/// time alone, as a node's numbers are.
+/// One run of a kind's kernel; nothing for an unknown name. Answers the peak of a meter. `one` is
+/// 1, known at run time only, as a node's numbers are.
 fn run(
     kind: &str,
     one: u32,

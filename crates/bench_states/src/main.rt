@@ -1,6 +1,7 @@
-//! Runs one quantum of a node again and again, or the bare kernel of its kind, and prints a checksum of what is left:
-//! `WORK QUANTUM RUNS`, where the work is a kind or `bare_` and a kind, `all` names each, and a run is 256 quanta of a
-//! node that is made for it; `idle_source` and `idle_sink` make it and no quantum. It tells no time: a script does.
+//! Runs one quantum of a node again and again, or the bare kernel of its kind, and prints a
+//! checksum of what is left: `WORK QUANTUM RUNS`, where the work is a kind or `bare_` and a kind,
+//! `all` names each, and a run is 256 quanta of a node that is made for it; `idle_source` and
+//! `idle_sink` make it and no quantum. It measures no time: a script does.
 #![tactic(auto)]
 
 mod bare;
@@ -21,7 +22,7 @@ const KINDS: [&str; 9] = [
     "source", "square", "gain", "mix2", "delay", "map", "split", "sink", "meter",
 ];
 
-/// Their kernels alone.
+/// Only their kernels.
 const BARE: [&str; 9] = [
     "bare_source",
     "bare_square",
@@ -53,7 +54,7 @@ fn number(word: &str) -> u32 {
     word.parse::<u32>().unwrap_or(0)
 }
 
-/// The checksum of a work; 0 for an unknown name or a quantum that is none.
+/// The checksum of a work; 0 for an unknown name or a quantum that is not one.
 fn checksum_of(alloc: Global, work: &str, quantum: u32, runs: u32) -> Result<u32, Memory> {
     if quantum < 1 || 8192 < quantum {
         return Ok(0);
@@ -83,7 +84,8 @@ fn checksum_of(alloc: Global, work: &str, quantum: u32, runs: u32) -> Result<u32
     }
 }
 
-/// Runs those of the works that the words name, or all, and prints a line for each. Whether all went well.
+/// Runs those of the works that the words name, or all, and prints a line for each. Whether all
+/// went well.
 fn run_some<R: Print + Alloc<A = Global>>(rt: &R, works: &[&str], words: &[String]) -> bool {
     let [name, quantum, runs] = words else {
         return false;

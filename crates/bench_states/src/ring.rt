@@ -3,8 +3,8 @@ ghost use Rattle.std.specs.Prelude.{◌≡◌, ◌≤◌, length};
 
 use crate::rows::{QUANTA, stir};
 
-/// A quantum at most as long as the ring: the oldest samples out, and the input in their place; in two parts where
-/// these go over the end of the ring. Answers the place of the oldest then.
+/// A quantum at most as long as the ring: the oldest samples out, and the input in their place; in
+/// two parts where these go over the end of the ring. Answers the place of the oldest then.
 #[inline(never)]
 fn ring_quantum(ring: &mut [i16], oldest: usize, a: &[i16], left: &mut [i16]) -> usize
     requires oldest { oldest ≤ length ring.old }
@@ -27,8 +27,8 @@ fn ring_quantum(ring: &mut [i16], oldest: usize, a: &[i16], left: &mut [i16]) ->
     rest
 }
 
-/// A quantum longer than the ring: the whole ring out and the beginning of the input behind it, then the end of the
-/// input in.
+/// A quantum longer than the ring: the whole ring out and the beginning of the input after it, then
+/// the end of the input in.
 #[inline(never)]
 fn long_quantum(ring: &mut [i16], a: &[i16], left: &mut [i16])
     requires ring { length ring.old ≤ length a.now }

@@ -1,4 +1,5 @@
-//! The words of a board after the beginning of a cycle of four nodes in a row, what claims find, and a check.
+//! The words of a board after the beginning of a cycle of four nodes in a row, what claims find,
+//! and a check.
 ghost use Rattle.board_rule.specs.OnBoard.{IsOn, layout};
 ghost use Rattle.std.specs.Prelude.{◌≡◌, ◌≤◌, length, slice_get, Some, [], ◌∷◌, slice_index, false, IsTrue, IsFalse, IfSome, IfOk};
 ghost use Rattle.board_rule.specs.Layout.{layout_of};
@@ -13,7 +14,8 @@ use std::alloc::Global;
 use std::marker::Brand;
 use std::test::Fail;
 
-/// The nodes of a source 0, a split 1, a mixer 2 and a sink 3 in a row: their required counts and targets.
+/// The nodes of a source 0, a split 1, a mixer 2 and a sink 3 in a row: their required counts and
+/// targets.
 const NODES: [(u32, u32, &'static [u32]); 4] = [
     (0, 1, &[1, 3]),
     (1, 2, &[2, 3]),
@@ -99,8 +101,8 @@ fn seats_of_row(alloc: Global) -> Result<Items<u32>, Memory>
     Items::from_slice(alloc, &[0, 1, 0, 0])
 }
 
-// A board for a shape of four nodes, with a seat for each of two loops. None for another shape, or one that is not
-// pooled.
+// A board for a shape of four nodes, with a seat for each of two loops. None for another shape, or
+// one that is not pooled.
 fn opened(
     alloc: Global,
     shape: &Shape,
@@ -224,7 +226,8 @@ fn words_stand(
         && is_at(board, (0, 1, 1, 3), (2, 0, 0, 0))
 }
 
-// On a board of the row: whether a check right after the begin names the unfinished, or else the words stand so.
+// On a board of the row: whether a check right after the begin names the unfinished, or else the
+// words are so.
 fn begins_so(alloc: Global, checked: bool) -> bool {
     let Ok(shape) = row(alloc) else {
         return false;

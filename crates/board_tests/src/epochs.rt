@@ -1,4 +1,5 @@
-//! Whole epochs of a board on which the driver's node is alone, and what its events are then.
+//! Whole epochs of a board on which the driver's node is the only one, and what its events are
+//! then.
 ghost use Rattle.std.specs.Prelude.{◌≡◌, All, IfOk, IfSome, [], length, not};
 ghost use Rattle.board_rule.specs.Layout.{first};
 ghost use Rattle.board_rule.specs.OnBoard.{IsOn, layout, table_of};
@@ -23,7 +24,7 @@ use std::marker::Brand;
 use std::sync::Wait;
 use std::test::Fail;
 
-// The driver's node alone, for three cycles.
+// Only the driver's node, for three cycles.
 fn alone(alloc: Global, driver: u32) -> Result<Shape, Memory>
     ensures { IfOk result (λ shape. (length shape.nodes ≡ 1) × (shape.links ≡ [])) }
 {
@@ -57,7 +58,8 @@ fn opened(alloc: Global, driver: u32) -> Result<Option<(Board, DriverSeat)>, Mem
     Ok(Some((board, seat)))
 }
 
-// The next cycle, with a look before the claim. Some(false) where none is left, None where the claim was too early.
+// The next cycle, with a look before the claim. Some(false) where no cycle is left, None where the
+// claim was too early.
 fn one_cycle(board: &Board, seat: &mut DriverSeat, ticker: &mut Every) -> Option<bool>
     requires pooled { IsPooledBoard (layout board.now) }
     requires table { IsOn board.now seat.old.table }
@@ -219,7 +221,7 @@ fn has_events(closed: Option<Closed>, driver: u32) -> bool {
     }
 }
 
-// Whether this driver runs alone.
+// Whether this driver runs so.
 fn runs_alone(alloc: Global, driver: u32) -> bool {
     match opened(alloc, driver) {
         Ok(Some((board, seat))) => has_events(closed(board, seat), driver),

@@ -123,8 +123,8 @@ fn full_queue_loses_nothing<R: Wait>(
         && (first.taken(), second.taken()) == (64, 1)
 }
 
-// What is forwarded wakes others: both nodes of its own loop, that of the other, and the driver's. A bit that is no
-// node is the driver's own. What was unparked before does not sleep.
+// What is forwarded wakes others: both nodes of its own loop, that of the other, and the driver's.
+// A bit that is no node is the driver's own. What was unparked before does not sleep.
 fn forwarded_wakes_others<R: Wait>(
     rt: &R,
     ways: &Ways,
@@ -177,8 +177,8 @@ fn driver_is_woken<R: Wait>(
     sent == 0 && (first.taken(), second.taken()) == (0, 0)
 }
 
-// Who is called sees it: the loop of a pushed node until it finds its queue empty, and the driver's thread until it
-// rests. Nobody else is called.
+// Who is called sees it: the loop of a pushed node until it finds its queue empty, and the driver's
+// thread until it rests. Nobody else is called.
 fn calls_are_seen<R: Wait>(
     rt: &R,
     ways: &Ways,
@@ -278,7 +278,7 @@ fn feed<R: Wait>(rt: &R, ways: &Ways, mut way: Way, woke: u64, often: u32)
     }
 }
 
-// Receives `often` numbers, and rests where there is none.
+// Receives `often` numbers, and rests where the queue is empty.
 fn eat<R: Wait>(rt: &R, ways: &Ways, mut way: Way, often: u64) -> u64
     requires answered { IsWayOf ways.now way }
     requires own { way.number < ways.now.loops }

@@ -85,7 +85,7 @@ fn illegal_traces_by_their_place(rt: HostRuntime) -> Result<(), Fail> {
     Ok(())
 }
 
-/// The events of one cycle, with a late check of these nodes behind the source.
+/// The events of one cycle, with a late check of these nodes after the source.
 fn put_cycle(events: &mut Items<Event>, cycle: u32, late: u64) -> Result<(), Memory> {
     events.push(Event::Begin { cycle })?;
     events.push(Event::Start { cycle, node: 0 })?;

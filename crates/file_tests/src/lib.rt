@@ -1,5 +1,5 @@
-//! Tests of what files hold, over public calls: WAV files, scripts, and the text of runs. They stand apart, since a
-//! crate that has tests is proved twice. There is nothing else here.
+//! Tests of what files hold, over public calls: WAV files, scripts, and the text of runs. They are
+//! a crate of their own, since a crate that has tests is proved twice. There is nothing else here.
 #![tactic(auto)]
 
 #[cfg(test)]

@@ -13,7 +13,7 @@ fn parsed(alloc: Global, text: &[u8]) -> Result<Script, ScriptFault> {
     parse(alloc, text)
 }
 
-// The line of a fault, its why and its limit by number: 0 where there is none.
+// Line, cause and limit number of a fault; 0 for what it lacks.
 fn fault_of(alloc: Global, text: &[u8]) -> (u32, u8, u8) {
     match parsed(alloc, text) {
         Err(
@@ -43,7 +43,8 @@ fn counts(alloc: Global, text: &[u8]) -> (usize, u32) {
     }
 }
 
-// A command by the place of its name in the order of the list below, and its numbers, a port as its node and its own.
+// A command by the place of its name in the order of the list below, and its numbers, a port as its
+// node and its own.
 fn told(command: &Command) -> [i64; 6] {
     match command {
         Command::Quantum { n } => [0, i64::from(*n), 0, 0, 0, 0],
@@ -141,7 +142,7 @@ fn file_of(command: &Command) -> &[u8] {
     }
 }
 
-// Whether the commands stand on the first lines.
+// Whether the commands are on the first lines.
 fn are_first(lines: &[Line]) -> bool {
     for (place, line) in lines.iter().enumerate() {
         if line.line as usize != place + 1 {
@@ -306,7 +307,7 @@ const BAD: [(&'static [u8], u32, u8); 57] = [
     (b"gain a 1\nlink a.in b.in", 2, 8),
     (b"gain a 1\nlink a.out a.out", 2, 8),
     (b"gain a 1\nunlink a.out b.in", 2, 7),
-    // what earlier lines forbid comes last
+    // what earlier lines forbid is found last
     (b"gain a 1\nquantum 4", 2, 9),
     (b"quantum 1\nquantum 1", 2, 9),
     (b"gain a 1\nquantum 0", 2, 4),
@@ -367,7 +368,7 @@ fn named(alloc: Global, bytes: usize) -> Result<Text, Memory> {
     Ok(text)
 }
 
-// What some lines and some words behind them are counted as, and at fault for.
+// What some lines and some words after them are counted as, and at fault for.
 fn longer(
     alloc: Global,
     lines: &[u8],

@@ -1,4 +1,4 @@
-//! WAV files byte by byte, and the fault of each that is none.
+//! WAV files byte by byte, and the fault of each that is no WAV file.
 use pw_lists::{Items, Memory};
 use std::alloc::Global;
 use std::test::Fail;
@@ -12,8 +12,8 @@ const PLAIN: [u8; 52] = [
     0x64, 0x61, 0x74, 0x61, 0x08, 0, 0, 0, 0x07, 0, 0x08, 0, 0x09, 0, 0, 0,
 ];
 
-/// A mono file of the samples 1 and 2 as a tool writes it that does not know how long it will be: with a chunk of an odd
-/// size, greatest sizes, and a byte at the end that is no sample.
+/// A mono file of the samples 1 and 2 as a tool writes it that does not know how long it will be:
+/// with a chunk of an odd size, greatest sizes, and a byte at the end that is no sample.
 const STREAMED: [u8; 61] = [
     0x52, 0x49, 0x46, 0x46, 0xff, 0xff, 0xff, 0xff, 0x57, 0x41, 0x56, 0x45, //
     0x66, 0x6d, 0x74, 0x20, 0x10, 0, 0, 0, 0x01, 0, 0x01, 0, //
@@ -114,7 +114,7 @@ fn changed(alloc: Global, place: usize, byte: u8) -> (u8, usize) {
 fn one_byte_makes_a_fault(rt: HostRuntime) {
     let table = [
         (0, b'r', 1, 0), // not a RIFF file
-        (12, b'x', 2, 0), // the samples come before a format
+        (12, b'x', 2, 0), // the samples are before a format
         (16, 15, 3, 0), // too short a format
         (16, 33, 6, 0), // a format past the end
         (20, 3, 4, 0), // samples of another kind

@@ -1,5 +1,5 @@
-//! Tests of the runs of several plans at once. They stand apart, since a crate that has tests is
-//! proved twice.
+//! Tests of the runs of several plans at once. They are a crate of their own, since a crate that
+//! has tests is proved twice.
 //!
 //! `group_of` makes the plans of parts, each from the text of its script.
 #![tactic(auto)]

@@ -59,7 +59,7 @@ const FOUR_PARTS: RunRow<'static> = RunRow {
     boards: 5,
 };
 
-// Whether two outcomes tell the same of the sinks.
+// Whether two outcomes say the same of the sinks.
 fn have_same_waves(a: &Outcome, b: &Outcome) -> bool {
     let (a, b) = (a.sinks.as_slice(), b.sinks.as_slice());
     if a.len() != b.len() {

@@ -1,5 +1,5 @@
-//! Tests of port_model and link_negotiation over their public calls. They stand apart, since a crate that has tests is
-//! proved twice. There is nothing else here.
+//! Tests of port_model and link_negotiation over their public calls. They are a crate of their own,
+//! since a crate that has tests is proved twice. There is nothing else here.
 #![tactic(auto)]
 
 #[cfg(test)]

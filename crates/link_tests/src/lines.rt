@@ -10,7 +10,7 @@ use port_model::Offered;
 use pw_graph::PortId;
 use pw_lists::Memory;
 
-/// A line; a port is told by its node and its number.
+/// A line; a port is given by its node and its number.
 #[derive(Clone, Copy, Drop)]
 pub enum Line {
     Link((u32, u32), (u32, u32)),
@@ -45,7 +45,7 @@ pub enum Did {
     Wrong,
 }
 
-/// The Int that a format has alone at a key, else 0.
+/// The Int that a format has as its only value at a key, else 0.
 fn number_at(format: &Format, key: u32) -> u32 {
     for field in format.fields.as_slice() {
         if field.key == key {

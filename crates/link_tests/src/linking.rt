@@ -10,13 +10,13 @@ use pw_lists::Memory;
 use std::alloc::Global;
 use std::test::Fail;
 
-/// An object of type Format with the rate 48000 alone.
+/// An object of type Format with only the rate 48000.
 const RATE_48000: [u8; 40] = [
     0x20, 0, 0, 0, 0x0f, 0, 0, 0, 3, 0, 4, 0, 3, 0, 0, 0, 3, 0, 1, 0, 0, 0, 0, 0, 4, 0, 0, 0, 4, 0,
     0, 0, 0x80, 0xbb, 0, 0, 0, 0, 0, 0,
 ];
 
-/// One with the rate 44100 alone.
+/// One with only the rate 44100.
 const RATE_44100: [u8; 40] = [
     0x20, 0, 0, 0, 0x0f, 0, 0, 0, 3, 0, 4, 0, 3, 0, 0, 0, 3, 0, 1, 0, 0, 0, 0, 0, 4, 0, 0, 0, 4, 0,
     0, 0, 0x44, 0xac, 0, 0, 0, 0, 0, 0,
@@ -35,7 +35,7 @@ fn more_does(graph: Graph, nodes: &[Node], lines: &[(Line, Did)]) -> Result<Opti
     first_unlike(&mut graph, lines)
 }
 
-/// The same in a graph of these nodes alone, of which some are asynchronous.
+/// The same in a graph of only these nodes, of which some are asynchronous.
 pub fn does(
     alloc: Global,
     marked: &[u32],
@@ -109,7 +109,7 @@ fn a_marked_node_closes_a_cycle(rt: HostRuntime) -> Result<(), Fail> {
     let made = Did::Made(48000, 1, 2);
     let nodes = [Node::Source(48000, 1), Node::Mix2, Node::Gain, Node::Sink];
     for (marked, back) in [(63, Did::Loop), (2, made)] {
-        // The mixer's second input comes back through the gain.
+        // The mixer's second input is fed back through the gain.
         let lines = [
             (Line::Link((0, 0), (1, 0)), made),
             (Line::Link((1, 2), (2, 0)), made),
@@ -277,7 +277,8 @@ fn gains(alloc: Global) -> Result<Graph, Memory> {
     empty(alloc, &[])?.more(&[Node::Gain; 34])
 }
 
-// The place of the first line that does otherwise where 34 gains have 256 links; 99 where they have not.
+// The place of the first line that does otherwise where 34 gains have 256 links; 99 where they have
+// not.
 fn full_does(alloc: Global, lines: &[(Line, Did)]) -> Result<Option<usize>, Memory> {
     let mut graph = gains(alloc)?;
     if !all_link_to_all(&mut graph)? {

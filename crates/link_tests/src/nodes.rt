@@ -78,7 +78,7 @@ pub fn narrowed(alloc: Global, kind: &Kind, port: u32, file: &Format) -> Result<
 }
 
 impl Graph {
-    /// One node more, the first 63 alone.
+    /// One node more, only the first 63.
     fn with(self, kind: &Kind, rate: u32, channels: u32) -> Result<Graph, Memory>
         requires kind { IsInRange kind.now }
         requires file { HasFileNumbers kind.now rate channels }
@@ -149,7 +149,7 @@ impl Graph {
         self.with(&Kind::Meter, 0, 0)
     }
 
-    // A node of a row. A source whose numbers are out of range is none.
+    // A node of a row. A source whose numbers are out of range is no node.
     fn one_more(self, node: Node) -> Result<Graph, Memory> {
         match node {
             Node::Source(rate, channels) => {

@@ -18,7 +18,7 @@ use std::test::Fail;
 /// The least and the greatest number of a rate and of channels.
 type Form = (Option<(i64, i64)>, Option<(i64, i64)>);
 
-/// An object of type Format with the rate 48000 alone.
+/// An object of type Format with only the rate 48000.
 const RATE_48000: [u8; 40] = [
     0x20, 0, 0, 0, 0x0f, 0, 0, 0, 3, 0, 4, 0, 3, 0, 0, 0, 3, 0, 1, 0, 0, 0, 0, 0, 4, 0, 0, 0, 4, 0,
     0, 0, 0x80, 0xbb, 0, 0, 0, 0, 0, 0,
@@ -171,7 +171,8 @@ fn kinds_offer_their_rates_and_channels(rt: HostRuntime) -> Result<(), Fail> {
     Ok(())
 }
 
-/// What a file that bytes spell does to the offer of a new node's first port, and what is offered then.
+/// What a file that bytes spell does to the offer of a new node's first port, and what is offered
+/// then.
 fn narrowed_as(
     alloc: Global,
     kind: &Kind,

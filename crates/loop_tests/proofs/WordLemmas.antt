@@ -1,4 +1,4 @@
--- Where the first block of a board stands.
+-- Where the first block of a board is.
 use Rattle.std.proofs.Common.{◌≡◌, ℕ, ◌+◌, ◌<◌, ◌≤◌, arith}
 use Rattle.std.proofs.Common.{Some, slice_get}
 use Rattle.pw_graph.specs.declared.pools.PoolShape.{PoolShape}

@@ -79,7 +79,8 @@ fn has_kept(plan: &Plan, seating: &Seating, own: &LoopState, node: u32, wanted: 
     }
 }
 
-// Whether a sink that drives keeps these samples in all epochs by one thread, which adopts `loops` loops.
+// Whether a sink that drives keeps these samples in all epochs by one thread, which adopts `loops`
+// loops.
 fn keeps_by<R: Wait>(
     rt: &R,
     alloc: Global,
@@ -189,7 +190,7 @@ const ROWS: [AloneRow; 5] = [
         2,
         &[0, 1, 0, 3],
     ),
-    // What the mixer gives comes back half as loud, two cycles later.
+    // What the mixer gives is fed back half as loud, two cycles later.
     (
         WorkRow {
             text: "quantum 1\nsource s s.wav\nmix2 m 256 128\ngain g 256\nloop g 1\nasync g\nsink o o.wav\n\

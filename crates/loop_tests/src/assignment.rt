@@ -1,4 +1,5 @@
-//! Which loop the nodes of two squares and a sink belong to, and which cell; and their seats on the boards.
+//! Which loop the nodes of two squares and a sink belong to, and which cell; and their seats on the
+//! boards.
 ghost use Rattle.std.specs.Prelude.{◌≤◌};
 ghost use Rattle.ready_queues.specs.Lanes.{loops_limit};
 ghost use Rattle.loop_tests.specs.Work.{CanRun};
@@ -10,7 +11,8 @@ use pw_graph::{NODES, Plan};
 use std::alloc::Global;
 use std::test::Fail;
 
-/// A node, how many loops there are, and its loop: a driver is in the driver's own, and so is each node of no loops.
+/// A node, how many loops there are, and its loop: a driver is in the driver's own, and so is each
+/// node of no loops.
 const LOOPS: [(u32, u32, u32); 8] = [
     (0, 2, 0),
     (1, 2, 1),

@@ -1,4 +1,4 @@
-//! What the row of a split and a mixer wakes, and how that comes to the queues of its two loops.
+//! What the row of a split and a mixer wakes, and how that is sent to the queues of its two loops.
 ghost use Rattle.std.specs.Prelude.{◌≡◌, IfOk, IfSome, [], ◌∷◌};
 ghost use Rattle.data_loop.specs.LoopWay.{IsDriverWay};
 ghost use Rattle.ready_queues.specs.AnsweredWith.{IsWayOf};
@@ -45,8 +45,8 @@ pub(crate) fn row_ways(alloc: Global) -> Option<(Ways, Way, Way, Way)>
     Some((ways, driver, first, second))
 }
 
-// What the beginning of a cycle wakes, and what the turn of the source wakes then. None where no cycle is left, or the
-// source is not awake.
+// What the beginning of a cycle wakes, and what the turn of the source wakes then. None where no
+// cycle is left, or the source is not awake.
 fn woken(board: &Board, crew: &mut Crew) -> Option<(u64, u64)>
     requires on { IsCrewOn board.now crew.old }
 {
@@ -79,7 +79,8 @@ fn received<R: Wait>(rt: &R, ways: &Ways, first: &mut Way, second: &mut Way) -> 
     [ways.receive(rt, first), ways.receive(rt, second)]
 }
 
-// Whether what was begun comes to the first loop alone, and then what the source's turn woke to the second alone.
+// Whether what was begun is sent only to the first loop, and then what the source's turn woke only
+// to the second.
 fn numbers_come<R: Wait>(
     rt: &R,
     ways: &Ways,
@@ -110,7 +111,7 @@ fn row_sends<R: Wait>(rt: &R, alloc: Global, woke: (u64, u64)) -> bool {
     }
 }
 
-// Whether the row wakes the source and then the split, and their numbers come to their loops.
+// Whether the row wakes the source and then the split, and their numbers are sent to their loops.
 fn row_wakes<R: Wait>(rt: &R, alloc: Global) -> bool {
     match woken_in_row(alloc) {
         Some(woke) => woke == (1, 2) && row_sends(rt, alloc, woke),

@@ -23,7 +23,8 @@ impl Starts for Refusing {
     }
 }
 
-/// Four squares of 100, each of a loop of its own, into a sink that drives, for five cycles in two epochs.
+/// Four squares of 100, each of a loop of its own, into a sink that drives, for five cycles in two
+/// epochs.
 const FOUR_SQUARES: WorkRow<'static> = WorkRow {
     text: "quantum 4\nsquare a 48000 1 4 100\nsquare b 48000 1 4 100\nsquare c 48000 1 4 100\n\
         square d 48000 1 4 100\nsink o o.wav\ndriver o 1\nlink a.out o.in\nlink b.out o.in\n\
@@ -43,8 +44,8 @@ const TWO_ONCE: WorkRow<'static> = WorkRow {
     samples: &[],
 };
 
-// A run in which the start of one loop is refused; of none where there is no loop of this number. None where there are
-// more than 16 loops, or no memory.
+// A run in which the start of one loop is refused; of none where there is no loop of this number.
+// None where there are more than 16 loops, or no memory.
 fn run_refusing<R: Threads + Wait + Sync, G: Gate + Sync>(
     rt: &R,
     alloc: Global,
@@ -72,7 +73,7 @@ fn run_refusing<R: Threads + Wait + Sync, G: Gate + Sync>(
     }
 }
 
-// Whether the four squares are summed whichever of four loops is refused, or none.
+// Whether the four squares are summed whichever of four loops is refused, or no loop.
 fn sums_four<R: Threads + Wait + Sync>(rt: &R, alloc: Global) -> bool {
     let Some(work) = work_of(alloc, FOUR_SQUARES) else {
         return false;
@@ -92,7 +93,8 @@ fn a_loop_that_cannot_be_started_is_run_all_the_same(rt: HostRuntime) -> Result<
     Ok(())
 }
 
-// Whether the two squares were awake at once in a run with this refused start. None where there was no run.
+// Whether the two squares were awake at once in a run with this refused start. None where there was
+// no run.
 fn squares_meet<R: Threads + Wait + Sync>(
     rt: &R,
     alloc: Global,
@@ -105,8 +107,8 @@ fn squares_meet<R: Threads + Wait + Sync>(
     Some(meet.met())
 }
 
-// Whether the squares meet where one alone is adopted, and not where the other's start is refused too: then the
-// driver's thread runs both.
+// Whether the squares meet where only one is adopted, and not where the other's start is refused
+// too: then the driver's thread runs both.
 fn refused_are_adopted<R: Threads + Wait + Sync>(rt: &R, alloc: Global) -> bool {
     squares_meet(rt, alloc, &[true, false], 2) == Some(true)
         && squares_meet(rt, alloc, &[true, false], 1) == Some(false)

@@ -19,8 +19,8 @@ pub(crate) enum Kept<'a> {
     Waves(usize, &'a [usize], [i16; 8]),
 }
 
-/// A run of a work, by a loop for each entry of a choice: whether it is adopted. Each choice leaves `boards` closed
-/// boards and keeps the same.
+/// A run of a work, by a loop for each entry of a choice: whether it is adopted. Each choice leaves
+/// `boards` closed boards and keeps the same.
 #[derive(Clone, Copy, Drop)]
 pub(crate) struct RunRow<'a> {
     pub work: WorkRow<'a>,
@@ -29,8 +29,8 @@ pub(crate) struct RunRow<'a> {
     pub kept: Kept<'a>,
 }
 
-// A run with a look in every second cycle, and how many closed boards there are. None where there are more than 16
-// loops, or no memory.
+// A run with a look in every second cycle, and how many closed boards there are. None where there
+// are more than 16 loops, or no memory.
 fn run_by<R: Threads + Wait + Sync, G: Gate + Sync>(
     rt: &R,
     alloc: Global,
@@ -52,7 +52,7 @@ fn run_by<R: Threads + Wait + Sync, G: Gate + Sync>(
     }
 }
 
-// What a sample is at an index, where some zeros come first and then these again and again.
+// What a sample is at an index, where some zeros are first and then these again and again.
 fn sample_at(at: usize, zeros: usize, period: [i16; 8]) -> i16 {
     if at < zeros {
         0
@@ -102,7 +102,8 @@ pub(crate) fn have_kept(outcome: &Outcome, kept: Kept<'_>) -> bool {
     }
 }
 
-// Whether a run by these loops has the boards of the row and a legal history, and its sinks keep what they are to keep.
+// Whether a run by these loops has the boards of the row and a legal history, and its sinks keep
+// what they are to keep.
 fn runs_so<R: Threads + Wait + Sync>(
     rt: &R,
     alloc: Global,
@@ -161,7 +162,8 @@ pub(crate) fn first_unlike<R: Threads + Wait + Sync>(
     None
 }
 
-// Whether the nodes 0 and 1 met in a run of a work, whose sinks are to keep this. None where they do not.
+// Whether the nodes 0 and 1 met in a run of a work, whose sinks are to keep this. None where they
+// do not.
 fn met<R: Threads + Wait + Sync>(
     rt: &R,
     alloc: Global,

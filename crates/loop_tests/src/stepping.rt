@@ -70,8 +70,8 @@ fn try_node<G: Gate>(board: &Board, state: &mut LoopState, node: u32, gate: &G) 
     }
 }
 
-/// One try of a node by one of the other loops of a crew. Ended where there is no such loop, or the node is not one of
-/// its followers with cycles left.
+/// One try of a node by one of the other loops of a crew. Ended where there is no such loop, or the
+/// node is not one of its followers with cycles left.
 pub fn try_at<G: Gate>(board: &Board, crew: &mut Crew, which: usize, node: u32, gate: &G) -> Tried
     requires on { IsCrewOn board.now crew.old }
     ensures on { IsCrewOn board.now crew.new }
@@ -91,8 +91,8 @@ fn settle_loop<R: Wait>(rt: &R, board: &Board, state: &mut LoopState)
     settle(rt, board, state, &Open::new());
 }
 
-/// Gives one of the other loops of a crew turns until none of its followers has cycles left; it may wait. Nothing where
-/// there is no such loop.
+/// Gives one of the other loops of a crew turns until none of its followers has cycles left; it may
+/// wait. Nothing where there is no such loop.
 pub fn settle_at<R: Wait>(rt: &R, board: &Board, crew: &mut Crew, which: usize)
     requires on { IsCrewOn board.now crew.old }
     ensures on { IsCrewOn board.now crew.new }

@@ -58,7 +58,8 @@ const NEED_1: u64 = 4294967297;
 
 const HAVE_1: u64 = 4294967298;
 
-// What a step does, or what stands after it. Nodes are tried by the loop of the first number.
+// What a step does, or what the words are after it. Nodes are tried by the loop of the first
+// number.
 #[derive(Clone, Copy, Drop)]
 enum Step {
     // A cycle begins.
@@ -135,7 +136,7 @@ fn loops_go(board: &Board, crew: &mut Crew, step: Step) -> bool
     }
 }
 
-// Whether a step goes so, or these words stand there.
+// Whether a step goes so, or the words are these.
 fn goes(alloc: Global, board: &Board, crew: &mut Crew, step: Step) -> bool
     requires on { IsCrewOn board.now crew.old }
     ensures on { IsCrewOn board.now crew.new }
@@ -200,9 +201,9 @@ const FAN_READERS: [Step; 13] = [
     Step::Block([HAVE_1, HAVE_1, HAVE_1], 0, EVEN),
 ];
 
-/// A delayed link has two areas: the second and the third are those of the late link. Block 0 begins out, with the
-/// late link as its reader, so that the first cycle fills block 1. In even cycles the late reader takes from the first
-/// of its areas, in odd ones from the second.
+/// A delayed link has two areas: the second and the third are those of the late link. Block 0
+/// begins out, with the late link as its reader, so that the first cycle fills block 1. In even
+/// cycles the late reader takes from the first of its areas, in odd ones from the second.
 const TWO_AREAS: [Step; 20] = [
     Step::Block([NO_BLOCK, 2, NO_BLOCK], 1, 0),
     Step::Begins,
@@ -226,8 +227,8 @@ const TWO_AREAS: [Step; 20] = [
     Step::Block([HAVE_1, 1, HAVE_1], 0, ODD),
 ];
 
-/// A row wakes node by node. Of three loops the source has loop 0, and the split loop 1. The source is awake in its
-/// turn.
+/// A row wakes node by node. Of three loops the source has loop 0, and the split loop 1. The source
+/// is awake in its turn.
 const ROW_WAKES: [Step; 5] = [
     Step::Begins,
     Step::Nodes([0, 1, 1, 3], [1, 0, 0, 0]),

@@ -76,7 +76,8 @@ fn push_samples(line: &mut Text, word: u64) -> Result<(), Memory> {
     push_sample(line, (word / 281474976710656) as u16)
 }
 
-// The readers and the samples of a block of the pool that a link reads; nothing where there is none.
+// The readers and the samples of a block of the pool that a link reads; nothing where there is
+// none.
 fn push_block(line: &mut Text, board: &Board, link: u32, id: u32) -> Result<(), Memory> {
     if !is_pooled_shape(board.shape()) || link as usize >= board.shape().links.len() {
         return Ok(());
@@ -114,7 +115,7 @@ fn cells(alloc: Global, board: &Board) -> Result<Text, Memory>
     Ok(line)
 }
 
-// What stands behind the first cell of a line.
+// What is after the first cell of a line.
 fn behind_first(line: &[u8]) -> &[u8] {
     match line {
         [] => line,
@@ -130,7 +131,7 @@ fn begins_with(text: &[u8], front: &[u8]) -> bool {
     text.len() >= front.len() && text.split_at(front.len()).0 == front
 }
 
-/// Whether the cells of a line behind its first one are the words of the board. False where memory
+/// Whether the cells of a line after its first one are the words of the board. False where memory
 /// is short, or the board has another number of nodes.
 pub(crate) fn line_is(alloc: Global, board: &Board, line: &str) -> bool {
     if board.shape().nodes.len() != 4 {

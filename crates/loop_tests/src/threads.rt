@@ -39,8 +39,8 @@ const SQUARES: RunRow<'static> = RunRow {
     kept: Kept::One(&BOTH),
 };
 
-/// The nodes of a split and a mixer have the loops 0, 1 and 2, of which any may be adopted. The sink keeps the left
-/// channel and half of the right one: 1 + 10 / 2 and so on.
+/// The nodes of a split and a mixer have the loops 0, 1 and 2, of which any may be adopted. The
+/// sink keeps the left channel and half of the right one: 1 + 10 / 2 and so on.
 const THREE_LOOPS: RunRow<'static> = RunRow {
     work: WorkRow {
         text: "quantum 2\nsource s s.wav\nsplit x\nloop x 1\nmix2 m 256 128\nloop m 2\nsink o o.wav\ndriver o 1\n\
@@ -62,8 +62,8 @@ const THREE_LOOPS: RunRow<'static> = RunRow {
     kept: Kept::One(&[6, 12, 18, 24]),
 };
 
-/// Any number of loops keeps the same: both squares; the first alone, which goes on with its second half; none; and the
-/// second alone, which goes on where it stopped.
+/// Any number of loops keeps the same: both squares; only the first, which goes on with its second
+/// half; neither; and only the second, which goes on where it stopped.
 const ON_AND_OFF: RunRow<'static> = RunRow {
     work: WorkRow {
         text: "quantum 2\nsquare a 48000 1 4 100\nsquare b 48000 1 4 10\nloop b 1\nsink o o.wav\ndriver o 1\n\
@@ -89,7 +89,8 @@ const SIXTEEN_LOOPS: RunRow<'static> = RunRow {
     kept: Kept::Waves(4000, &[0], [100, 100, -100, -100, 100, 100, -100, -100]),
 };
 
-/// Three loops read one block each cycle; the square is positive in even cycles and negative in odd ones.
+/// Three loops read one block each cycle; the square is positive in even cycles and negative in odd
+/// ones.
 const ONE_BLOCK: RunRow<'static> = RunRow {
     work: WorkRow {
         text: "quantum 4\nsquare q 48000 1 8 100\nsink a a.wav\nloop a 1\nsink b b.wav\nloop b 2\nsink o o.wav\n\
@@ -106,7 +107,8 @@ const ONE_BLOCK: RunRow<'static> = RunRow {
     ),
 };
 
-/// The same with a late second reader, which receives four zeros, and then what was given in the cycle before.
+/// The same with a late second reader, which receives four zeros, and then what was given in the
+/// cycle before.
 const LATE_READER: RunRow<'static> = RunRow {
     work: WorkRow {
         text: "quantum 4\nsquare q 48000 1 8 100\nsink a a.wav\nloop a 1\nsink b b.wav\nloop b 2\nasync b\n\
@@ -122,8 +124,8 @@ const LATE_READER: RunRow<'static> = RunRow {
     ..ONE_BLOCK
 };
 
-/// The first of two pools has eight blocks, and is that of the first loop; the second has two, which its loop fills in
-/// turn.
+/// The first of two pools has eight blocks, and is that of the first loop; the second has two,
+/// which its loop fills in turn.
 const UNLIKE_POOLS: RunRow<'static> = RunRow {
     work: WorkRow {
         text: "quantum 4\nsquare a 48000 1 8 100\nsquare b 48000 1 8 100\nloop b 1\nsink o o.wav\ndriver o 1\n\
@@ -136,7 +138,8 @@ const UNLIKE_POOLS: RunRow<'static> = RunRow {
     kept: Kept::Waves(40, &[0], [200, 200, 200, 200, -200, -200, -200, -200]),
 };
 
-/// Two sinks of the driver's own loop: the one that does not drive runs last of those that the driver waits for.
+/// Two sinks of the driver's own loop: the one that does not drive runs last of those that the
+/// driver waits for.
 const OWN_FOLLOWER: RunRow<'static> = RunRow {
     work: WorkRow {
         text: "quantum 4\nsquare a 48000 1 8 100\nsink p p.wav\nsink o o.wav\ndriver o 2\ndriver p 1\n\
@@ -170,13 +173,14 @@ fn runs_keep_their_samples_by_any_loops(rt: HostRuntime) -> Result<(), Fail> {
     Ok(())
 }
 
-/// The two squares wait for the driver alone, so both are awake at once in two loops.
+/// The two squares wait only for the driver, so both are awake at once in two loops.
 const AT_ONCE: RunRow<'static> = RunRow {
     choices: &[&[false, false]],
     ..SQUARES
 };
 
-/// So are the writer and the reader of a late link: the link to the gain and the one from it are each a cycle late.
+/// So are the writer and the reader of a late link: the link to the gain and the one from it are
+/// each a cycle late.
 const LATE: RunRow<'static> = RunRow {
     work: WorkRow {
         text: "quantum 2\nsource s s.wav\ngain g 256\nloop g 1\nasync g\nsink o o.wav\ndriver o 1\n\
@@ -202,8 +206,8 @@ const ONE_THREAD: RunRow<'static> = RunRow {
     kept: Kept::One(&[110, 110]),
 };
 
-/// A driver that looks for a node without a link: in the meantime its one loop has gone to rest, also before the second
-/// epoch.
+/// A driver that looks for a node without a link: in the meantime its one loop has gone to rest,
+/// also before the second epoch.
 const LONG_DRIVER: RunRow<'static> = RunRow {
     work: WorkRow {
         text: "quantum 2\nsink o o.wav\nmeter m\nsquare a 48000 1 4 100\ndriver o 1\nlink a.out o.in\n\

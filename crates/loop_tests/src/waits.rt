@@ -10,8 +10,8 @@ use std::alloc::Global;
 use std::sync::Wait;
 use std::test::Fail;
 
-// A look of a loop and then its wait: whether the look saw a call, how often it spun, and how often the loop's thread
-// has rested then.
+// A look of a loop and then its wait: whether the look saw a call, how often it spun, and how often
+// the loop's thread has rested then.
 fn waited<R: Wait>(rt: &R, ways: &Ways, way: &mut Way) -> (bool, u32, u64)
     requires { IsWayOf ways.now way.old }
 {
@@ -29,7 +29,8 @@ fn driver_waited<R: Wait>(rt: &R, ways: &Ways, way: &mut Way) -> (bool, u32, u64
     (look.called, look.spins, way.rested())
 }
 
-// The wait of a loop that has taken its number since it was called, so that its token is all that is there.
+// The wait of a loop that has taken its number since it was called, so that its token is all that
+// is there.
 fn not_called<R: Wait>(rt: &R, alloc: Global) -> Option<(bool, u32, u64)> {
     let (ways, mut driver, mut first, _second) = row_ways(alloc)?;
     ways.forward(rt, &mut driver, 1);

@@ -57,14 +57,15 @@ fn first_pool(board: &Board) -> usize
     1 + 2 * nodes + area_count(shape.links.as_slice()) + cycles + cycles * (2 * nodes + 3)
 }
 
-// Whether these two words stand at an index.
+// Whether these two words are at an index.
 fn has_two(board: &Board, at: usize, first: u64, second: u64) -> bool
     requires { at + 1 < word_count board.now.board_shape.shape }
 {
     board.peek(at) == first && board.peek(at + 1) == second
 }
 
-/// Whether the first block of the first pool has `readers` readers, and `samples` as its first word.
+/// Whether the first block of the first pool has `readers` readers, and `samples` as its first
+/// word.
 pub(crate) fn block_is(alloc: Global, board: &Board, readers: u64, samples: u64) -> bool {
     if !is_pooled_shape(board.shape()) {
         return false;

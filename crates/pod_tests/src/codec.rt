@@ -153,7 +153,7 @@ const NO_VALUE: [u8; 24] = [
     12, 0, 0, 0, 16, 0, 0, 0, 0, 0, 0, 0, 0, 0, 0, 0, 0, 0, 0, 0, 0, 0, 0, 0,
 ];
 
-// Whether reading tells this fault.
+// Whether reading reports this fault.
 fn is_fault(alloc: Global, bytes: &[u8], fault: PodFault) -> bool {
     match read_pod(alloc, bytes) {
         Ok(_read) => false,
@@ -253,7 +253,7 @@ fn each_proper_prefix_is_short(rt: HostRuntime) {
     }
 }
 
-/// Two bytes, as Bytes, with a String and a Bitmap behind them in a Struct.
+/// Two bytes, as Bytes, with a String and a Bitmap after them in a Struct.
 const ROWS: [u8; 56] = [
     0x30, 0, 0, 0, 0x0e, 0, 0, 0, 2, 0, 0, 0, 9, 0, 0, 0, 0, 0xff, 0, 0, 0, 0, 0, 0, //
     4, 0, 0, 0, 8, 0, 0, 0, 0x22, 0, 0x5c, 0, 0, 0, 0, 0, //

@@ -94,7 +94,8 @@ fn ends(alts: &[Pod]) -> [i64; 3] {
     }
 }
 
-/// The kind of a choice, its pick, and its first number, its last one and its step, or how many they are.
+/// The kind of a choice, its pick, and its first number, its last one and its step, or how many
+/// they are.
 fn told(choice: &Choice) -> [i64; 5] {
     match choice {
         Choice::Only(value) => [1, number_in(value), 0, 0, 0],
@@ -129,7 +130,7 @@ fn copied(alloc: Global, values: Given) -> Result<Choice, FormatFault>
     Ok(choice.copy(alloc)?)
 }
 
-/// The intersection of two choices, told.
+/// The intersection of two choices, as a row.
 fn met(alloc: Global, a: Given, b: Given) -> Result<[i64; 5], FormatFault> {
     let a = copied(alloc, a)?;
     let b = given(alloc, b)?;

@@ -1,5 +1,5 @@
-//! Tests of pod_codec, control_sequence and format_filter over their public calls. They stand apart, since a crate that has tests is
-//! proved twice. There is nothing else here.
+//! Tests of pod_codec, control_sequence and format_filter over their public calls. They are a crate
+//! of their own, since a crate that has tests is proved twice. There is nothing else here.
 #![tactic(auto)]
 
 #[cfg(test)]

@@ -1,14 +1,14 @@
-//! What stands under a name, compared with what is wanted.
+//! What is stored under a name, compared with what is wanted.
 
 use crate::held::{Held, bytes_of};
 use pw_lists::Items;
 use pw_outside::MemFiles;
 use std::alloc::Global;
 
-/// A name, and what is wanted under it: none where there is to be no file.
+/// A name, and what is wanted under it: nothing where there is to be no file.
 pub type Stored<'a> = (&'a str, Option<Held<'a>>);
 
-// Whether these bytes, or none, stand under a name.
+// Whether these bytes, or none, are stored under a name.
 fn stands(alloc: Global, files: &MemFiles, name: &str, bytes: Option<&[u8]>) -> bool {
     let Ok(name) = Items::from_slice(alloc, name.as_bytes()) else {
         return false;

@@ -5,8 +5,8 @@ use pw_lists::{Items, Memory};
 use pw_outside::{MemFiles, MemSink};
 use std::alloc::Global;
 
-/// The calls that fail. They are counted from 1, so that 0 is none; a store and a put fail after so
-/// many bytes.
+/// The calls that fail. They are counted from 1, so that 0 is no call; a store and a put fail after
+/// so many bytes.
 #[derive(Clone, Copy, Drop)]
 pub struct Faults {
     pub load: u64,

@@ -10,7 +10,7 @@ use std::sync::Wait;
 use std::thread::Threads;
 
 /// A line of words over files in memory, and what is wanted of it: its status, its text, and what
-/// then stands under some names.
+/// is then stored under some names.
 #[derive(Clone, Copy, Drop)]
 pub struct Row<'a> {
     pub line: &'a str,
@@ -52,7 +52,7 @@ pub fn ends_so<R: Threads + Wait + Sync + AllocGlobal, F: Files>(
     }
 }
 
-// Whether a row comes out as wanted over these files.
+// Whether a row is as wanted over these files.
 fn comes_out<R: Threads + Wait + Sync + AllocGlobal>(
     rt: &R,
     row: Row<'_>,
@@ -62,7 +62,7 @@ fn comes_out<R: Threads + Wait + Sync + AllocGlobal>(
         && all_stored(rt.alloc(), files, row.stored)
 }
 
-/// Whether a row comes out as wanted.
+/// Whether a row is as wanted.
 pub fn is_so<R: Threads + Wait + Sync + AllocGlobal>(rt: &R, row: Row<'_>) -> bool {
     match files_of(rt.alloc(), row.script, row.files, row.faults) {
         Ok(mut files) => comes_out(rt, row, &mut files),
@@ -70,7 +70,7 @@ pub fn is_so<R: Threads + Wait + Sync + AllocGlobal>(rt: &R, row: Row<'_>) -> bo
     }
 }
 
-/// Whether a row comes out as wanted where these bytes are held under this name.
+/// Whether a row is as wanted where these bytes are held under this name.
 pub fn is_so_with<R: Threads + Wait + Sync + AllocGlobal>(
     rt: &R,
     row: Row<'_>,
@@ -86,7 +86,7 @@ pub fn is_so_with<R: Threads + Wait + Sync + AllocGlobal>(
     }
 }
 
-/// The place of the first row that does not come out as wanted.
+/// The place of the first row that is not as wanted.
 pub fn first_unlike<R: Threads + Wait + Sync + AllocGlobal>(
     rt: &R,
     rows: &[Row<'_>],

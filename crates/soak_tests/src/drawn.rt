@@ -1,5 +1,6 @@
-//! What is drawn from a number. The values are those of a Python program of ten lines, written from the definition of the
-//! draws: it steps one integer, takes it modulo 2**64, and draws chain after chain.
+//! What is drawn from a number. The values are those of a Python program of ten lines, written from
+//! the definition of the draws: it steps one integer, takes it modulo 2**64, and draws chain after
+//! chain.
 
 use crate::work::work_of;
 use graph_script::{Command, Script};
@@ -9,8 +10,9 @@ use std::alloc::Global;
 use std::test::Fail;
 use wav_files::WavIn;
 
-/// A number, and what is drawn from it: the first and the last sample of each wave, the begin and the end of its text
-/// and how long that is, and the source that goes off for a while, the first node of its chain.
+/// A number, and what is drawn from it: the first and the last sample of each wave, the begin and
+/// the end of its text and how long that is, and the source that goes off for a while, the first
+/// node of its chain.
 #[derive(Clone, Copy, Drop)]
 struct Drawn {
     number: u32,
@@ -21,7 +23,7 @@ struct Drawn {
     source: u32,
 }
 
-/// The whole text of 7. Of the others the first chain behind the quantum, and the last lines.
+/// The whole text of 7. Of the others the first chain after the quantum, and the last lines.
 const NUMBERS: [Drawn; 3] = [
     Drawn {
         number: 7,
@@ -127,7 +129,8 @@ fn switches(command: &Command, source: u32, off: bool) -> bool {
     }
 }
 
-// Whether a script has its lines and names; those before the last take this source off and on again.
+// Whether a script has its lines and names; those before the last take this source off and on
+// again.
 fn is_script(script: &Script, source: u32) -> bool {
     if script.lines.len() != 65 || script.names.len() != 26 {
         return false;
@@ -142,8 +145,9 @@ fn is_script(script: &Script, source: u32) -> bool {
     }
 }
 
-// Whether a plan has 306 cycles in three epochs. 100 of the 256 quanta of each wave are given in the first, and 50 in
-// the second but for the source that is off then, which has 156 left. Its one link is not in the second epoch.
+// Whether a plan has 306 cycles in three epochs. 100 of the 256 quanta of each wave are given in
+// the first, and 50 in the second but for the source that is off then, which has 156 left. Its one
+// link is not in the second epoch.
 fn is_plan(plan: &Plan) -> bool {
     match plan.epochs.as_slice() {
         [first, second, third] => {

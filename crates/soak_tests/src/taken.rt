@@ -1,4 +1,4 @@
-//! A run by loops in threads, of which each tells how many numbers it took out of its queue.
+//! A run by loops in threads, of which each counts how many numbers it took out of its queue.
 ghost use Rattle.std.specs.Prelude.{◌≡◌, ◌≤◌, All, IfOk, IfSome, length, map};
 ghost use Rattle.ready_queues.specs.Lanes.{loops_limit};
 ghost use Rattle.soak_tests.specs.Threads.{CanStart, CanDrive};

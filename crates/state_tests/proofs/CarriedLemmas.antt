@@ -1,4 +1,4 @@
--- What comes to an input in an epoch of one cycle, over no link or over one.
+-- What an input receives in an epoch of one cycle, over no link or over one.
 use Rattle.std.proofs.Common.{◌≡◌, ℕ, ◌+◌, ◌*◌, ◌<◌, ◌≤◌, Bool, true, false, nat_lt, List, [], ◌∷◌, length, map, filter, find}
 use Rattle.std.proofs.Common.{fold, Some, None, count_by, ℤ, refl, sym, ap, ◌∙◌, subst, arith, ⊎_elim}
 use Rattle.std.proofs.lemmas.Bool.{cases_Bool, cond-true, cond-false, lt-ltb}

@@ -1,5 +1,5 @@
-//! Three nodes in a row, a source, a node between and a sink that drives, through a plan whose epochs have a cycle
-//! each: each node works by the contracts of node_progress alone.
+//! Three nodes in a row, a source, a node between and a sink that drives, through a plan whose
+//! epochs have a cycle each: each node works only by the contracts of node_progress.
 ghost use Rattle.std.specs.Prelude.{◌≡◌, ◌<◌, ◌*◌, List, ℤ, suc, true, length, map, find, count_by, false, option_copied, IfSome, IsTrue};
 ghost use Rattle.pw_graph.specs.KindPorts.{input_count, output_count};
 ghost use Rattle.pw_graph.specs.PlanForms.{kind_at};
@@ -136,8 +136,8 @@ fn alone(row: &[i16], to: &mut [i16]) -> bool
     true
 }
 
-// What comes to the first input of a node, over no link or over one of the node `from`, which gave this row if it
-// worked.
+// What the first input of a node receives, over no link or over one of the node `from`, which gave
+// this row if it worked.
 fn comes(
     score: &Score,
     plan: &Plan,
@@ -385,8 +385,8 @@ fn chain_keeps(
     through_all(score, plan, epochs, &mut source, &mut between, &mut sink) && sink.kept() == wanted
 }
 
-/// Whether the sink keeps these samples after `epochs` epochs. False also where the plan is not sound, its waves do not
-/// fit, or it has not three such nodes.
+/// Whether the sink keeps these samples after `epochs` epochs. False also where the plan is not
+/// sound, its waves do not fit, or it has not three such nodes.
 pub fn keeps(
     alloc: Global,
     plan: &Plan,

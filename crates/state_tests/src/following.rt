@@ -16,7 +16,7 @@ pub struct Widths {
     pub right: usize,
 }
 
-/// Whole streams: what comes to the inputs, and what is to be given at the outputs.
+/// Whole streams: what the inputs receive, and what is to be given at the outputs.
 #[derive(Clone, Copy, Drop)]
 pub struct Streams<'a> {
     pub a: &'a [i16],

@@ -1,4 +1,5 @@
-//! A plan with a node of each kind, whose inputs and outputs all go into sinks, and what the reference program renders of it.
+//! A plan with a node of each kind, whose inputs and outputs all go into sinks, and what the
+//! reference program renders of it.
 
 ghost use Rattle.std.specs.Prelude.{◌≡◌, pos, [], ◌∷◌, IfOk};
 ghost use Rattle.pw_graph.specs.declared.kind.Kind.TheVariants as K;

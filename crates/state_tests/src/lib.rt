@@ -1,7 +1,7 @@
-//! Tests of samples: the kernels, quanta of node states, plans that are rendered whole, and node states beside the
-//! cycle function: what each kind of node gives quantum after quantum is what the reference program renders of whole
-//! streams; and runs of three nodes by node_progress alone. They stand apart, since a crate that has tests is proved
-//! twice.
+//! Tests of samples: the kernels, quanta of node states, plans that are rendered whole, and node
+//! states beside the cycle function: what each kind of node gives quantum after quantum is what the
+//! reference program renders of whole streams; and runs of three nodes by node_progress only. They
+//! are a crate of their own, since a crate that has tests is proved twice.
 #![tactic(auto)]
 
 #[cfg(test)]

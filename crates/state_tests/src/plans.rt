@@ -226,7 +226,7 @@ fn a_source_that_was_off_goes_on(rt: HostRuntime) -> Result<(), Fail> {
     Ok(())
 }
 
-/// A mixer whose second input comes back through a gain.
+/// A mixer whose second input is fed back through a gain.
 const FEEDBACK: PlanRow<'static> = PlanRow {
     quantum: 1,
     nodes: &[

@@ -7,8 +7,8 @@ use pw_lists::{Items, Memory};
 use std::alloc::Global;
 use wav_files::{Outcome, Wav, WavIn};
 
-/// A node: its kind with its numbers. A square has its period and its amplitude, a map its list, a sink and a meter
-/// the channels that they end with.
+/// A node: its kind with its numbers. A square has its period and its amplitude, a map its list, a
+/// sink and a meter the channels that they end with.
 #[derive(Clone, Copy, Drop)]
 pub enum Sort<'a> {
     Source,
@@ -25,8 +25,8 @@ pub enum Sort<'a> {
 /// A link: its two ports, its channels, and whether it is a cycle late.
 pub type LinkRow = ((u32, u32), (u32, u32), u32, bool);
 
-/// An epoch: its active nodes, and their links. A form is of a node, a port and channels, an entry of a node and its
-/// channels.
+/// An epoch: its active nodes, and their links. A form is of a node, a port and channels, an entry
+/// of a node and its channels.
 #[derive(Clone, Copy, Drop)]
 pub struct EpochRow<'a> {
     pub first: u32,
@@ -271,7 +271,8 @@ fn rendered(alloc: Global, plan: &Plan, waves: &Items<WavIn>) -> Result<Option<O
     Ok(Some(render(alloc, plan, waves)?))
 }
 
-/// What the reference program renders of the plan of a row, none where that is not sound or the wave does not fit.
+/// What the reference program renders of the plan of a row, none where that is not sound or the
+/// wave does not fit.
 pub fn outcome_of(alloc: Global, row: PlanRow<'_>) -> Result<Option<Outcome>, Memory> {
     let plan = plan_of(alloc, row)?;
     let waves = waves_of(alloc, row)?;

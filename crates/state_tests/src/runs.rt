@@ -1,5 +1,5 @@
-//! Runs of three nodes by node_progress alone: what the sink keeps, with the samples worked out by hand, how often its
-//! nodes work, and where they begin anew.
+//! Runs of three nodes by node_progress only: what the sink keeps, with the samples worked out by
+//! hand, how often its nodes work, and where they begin anew.
 
 use crate::chain::keeps;
 use crate::rows::{EpochRow, PlanRow, Sort, plan_of, waves_of};
@@ -9,7 +9,7 @@ use pw_graph::Plan;
 use std::alloc::Global;
 use std::test::Fail;
 
-/// All three nodes are on and linked for a cycle, and none begins anew.
+/// All three nodes are on and linked for a cycle, and no node begins anew.
 const WHOLE: EpochRow<'static> = EpochRow {
     first: 0,
     cycles: 1,
@@ -37,8 +37,8 @@ const ANEW: EpochRow<'static> = EpochRow {
     ..SECOND
 };
 
-/// The second cycle, where the node between is off: the sink receives silence, and what the source gives goes to
-/// nobody.
+/// The second cycle, where the node between is off: the sink receives silence, and what the source
+/// gives goes to nobody.
 const RESTS: EpochRow<'static> = EpochRow {
     nodes: &[0, 2],
     links: &[],
@@ -54,7 +54,7 @@ const SOURCE_OFF: EpochRow<'static> = EpochRow {
     ..FIRST
 };
 
-/// The first cycle, where the sink is alone and has no form.
+/// The first cycle, where only the sink is active and has no form.
 const FORMLESS: EpochRow<'static> = EpochRow {
     nodes: &[2],
     links: &[],
@@ -77,13 +77,13 @@ const DELAY: PlanRow<'static> = PlanRow {
     ..GAIN
 };
 
-/// The sink drives both epochs, and has a form in the second alone.
+/// The sink drives both epochs, and has a form only in the second.
 const FORMED_LATER: PlanRow<'static> = PlanRow {
     epochs: &[FORMLESS, EpochRow { first: 1, ..FIRST }],
     ..GAIN
 };
 
-/// The second epoch names nodes 1 and 2 with one channel; the first names none.
+/// The second epoch names nodes 1 and 2 with one channel; the first names no node.
 const NAMED_LATER: PlanRow<'static> = PlanRow {
     epochs: &[WHOLE, EpochRow { first: 1, ..FIRST }],
     ..GAIN

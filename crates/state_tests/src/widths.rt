@@ -1,4 +1,5 @@
-//! How many samples each port of a node has in a quantum, by its kind, and new nodes that follow whole streams.
+//! How many samples each port of a node has in a quantum, by its kind, and new nodes that follow
+//! whole streams.
 ghost use Rattle.std.specs.Prelude.{◌≡◌, ◌≤◌, ◌*◌, None, option_copied};
 ghost use Rattle.pw_graph.specs.KindRanges.{IsInRange};
 ghost use Rattle.pw_graph.specs.SoundShape.{IsBetween};
@@ -106,7 +107,8 @@ fn channels_in(wav: Option<&Wav>) -> u32
     }
 }
 
-/// A new node that, given the inputs quantum after quantum, gave just the outputs; none where it gave others.
+/// A new node that, given the inputs quantum after quantum, gave just the outputs; none where it
+/// gave others.
 pub fn followed(
     alloc: Global,
     kind: &Kind,

@@ -1,5 +1,5 @@
-//! Tests of runs by loops that steal, over plans of script texts. They stand apart, since a crate
-//! that has tests is proved twice.
+//! Tests of runs by loops that steal, over plans of script texts. They are a crate of their own,
+//! since a crate that has tests is proved twice.
 #![tactic(auto)]
 
 #[cfg(test)]

@@ -99,7 +99,8 @@ fn have_kept(outcome: &Outcome, kept: &[&[i16]]) -> bool {
     true
 }
 
-// Whether a run has the boards of the row and a legal history, and its sinks keep what they are to keep.
+// Whether a run has the boards of the row and a legal history, and its sinks keep what they are to
+// keep.
 fn has_gone(work: &Work, run: Option<(Outcome, usize)>, row: &RunRow<'_>) -> bool {
     match run {
         Some((outcome, boards)) => {
@@ -124,8 +125,8 @@ fn all_go<R: Threads + Wait + Sync>(rt: &R, alloc: Global, work: &Work, row: &Ru
     true
 }
 
-// Whether they go so where the start of worker 0, 1, 2 or 3 is refused, or of none where there is no
-// such worker.
+// Whether they go so where the start of worker 0, 1, 2 or 3 is refused, or of none where there is
+// no such worker.
 fn all_go_refused<R: Threads + Wait + Sync>(
     rt: &R,
     alloc: Global,
@@ -152,7 +153,8 @@ fn row_goes<R: Threads + Wait + Sync>(rt: &R, alloc: Global, row: &RunRow<'_>) -
     }
 }
 
-/// Whether the runs of a row go so where each of three workers is refused in turn, and none.
+/// Whether the runs of a row go so where each of three workers is refused in turn, and where no
+/// worker is.
 pub(crate) fn row_goes_refused<R: Threads + Wait + Sync>(
     rt: &R,
     alloc: Global,

@@ -8,7 +8,8 @@ use std::sync::Wait;
 use std::test::Fail;
 use std::thread::Threads;
 
-/// A split and a mixer. The sink keeps the left channel and half of the right one: 1 + 10 / 2 and so on.
+/// A split and a mixer. The sink keeps the left channel and half of the right one: 1 + 10 / 2 and
+/// so on.
 const SPLIT: RunRow<'static> = RunRow {
     work: WorkRow {
         text: "quantum 2\nsource s s.wav\nsplit x\nmix2 m 256 128\nsink o o.wav\ndriver o 1\n\
@@ -21,7 +22,8 @@ const SPLIT: RunRow<'static> = RunRow {
     kept: &[&[6, 12, 18, 24]],
 };
 
-/// Two squares of 100 into a sink that drives, for five cycles in two epochs, whichever of two workers are started.
+/// Two squares of 100 into a sink that drives, for five cycles in two epochs, whichever of two
+/// workers are started.
 const TWO_SQUARES: RunRow<'static> = RunRow {
     work: WorkRow {
         text: "quantum 4\nsquare a 48000 1 4 100\nsquare b 48000 1 4 100\nloop b 5\nsink o o.wav\nloop o 2\n\
@@ -44,7 +46,7 @@ const TWO_SQUARES: RunRow<'static> = RunRow {
     ]],
 };
 
-/// Both squares; the first alone; none; and the second alone, which goes on where it stopped.
+/// Both squares; only the first; neither; and only the second, which goes on where it stopped.
 const ON_AND_OFF: RunRow<'static> = RunRow {
     work: WorkRow {
         text: "quantum 2\nsquare a 48000 1 4 100\nsquare b 48000 1 4 10\nloop b 1\nsink o o.wav\ndriver o 1\n\
@@ -57,7 +59,8 @@ const ON_AND_OFF: RunRow<'static> = RunRow {
     kept: &[&[110, 110, -100, -100, 0, 0, -10, -10, 10, 10]],
 };
 
-/// Two sinks, each of which drives in one epoch: no node has a cell. Neither is linked, so neither keeps anything.
+/// Two sinks, each of which drives in one epoch: no node has a cell. Neither is linked, so neither
+/// keeps anything.
 const ALL_DRIVE: RunRow<'static> = RunRow {
     work: WorkRow {
         text: "quantum 2\nsink o o.wav\nsink p p.wav\ndriver o 1\ndriver p 2\ncycles 2\noff p\ncycles 1\n",
@@ -154,8 +157,8 @@ fn a_named_worker_is_not_started(rt: HostRuntime) -> Result<(), Fail> {
     Ok(())
 }
 
-// Whether the sink of the first cell keeps its samples where the square looks for a node that is not
-// there: in the meantime another thread tries the cell, which is too early.
+// Whether the sink of the first cell keeps its samples where the square looks for a node that is
+// not there: in the meantime another thread tries the cell, which is too early.
 fn waits_for_the_square<R: Threads + Wait + Sync>(rt: &R, alloc: Global) -> bool {
     let gate = Meet::new(1, 63);
     goes_by(rt, alloc, &SINK_FIRST, &[false], &gate) && !gate.met()
@@ -167,8 +170,8 @@ fn a_cell_that_is_tried_too_early_is_tried_again(rt: HostRuntime) -> Result<(), 
     Ok(())
 }
 
-/// A meter that is off from the second epoch on, and begins anew with the third: no step of its cell
-/// is asked for before the end.
+/// A meter that is off from the second epoch on, and begins anew with the third: no step of its
+/// cell is asked for before the end.
 const LEFT_BEHIND: WorkRow<'static> = WorkRow {
     text: "quantum 2\nmeter m\nsquare a 48000 1 4 100\nsink o o.wav\ndriver o 1\nlink a.out m.in\n\
         link a.out o.in\ncycles 1\noff m\ncycles 1\nunlink a.out m.in\nlink a.out m.in\ncycles 1\n",

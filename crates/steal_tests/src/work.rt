@@ -9,7 +9,8 @@ use pw_lists::{Items, Memory};
 use std::alloc::Global;
 use wav_files::{Wav, WavIn};
 
-/// A script, and the samples of its source, node 0, of one channel or two. With 0 channels there is no source.
+/// A script, and the samples of its source, node 0, of one channel or two. With 0 channels there is
+/// no source.
 #[derive(Clone, Copy, Drop)]
 pub struct WorkRow<'a> {
     pub text: &'a str,

@@ -9,7 +9,7 @@ use Rattle.pw_graph.specs.declared.event.Event.TheVariants.{Begin, Start, Finish
 use Rattle.cycle_trace.specs.Printable.{JoinsPorts, NamesNodes}
 use Rattle.file_tests.proofs.traces.events_are_told_in_order.Goals as goal
 
--- no bit of 6 stands at 3 or above
+-- 6 has no bit 3 or above
 bit_of_six : (n : ℕ) → 6 / 2 ^ n % 2 ≡ 1 → n < 3
 bit_of_six n bit = elim (cases_lt n 3) [
   | inl below ↦ below
