@@ -35,7 +35,7 @@ class Refusals:
             self.place.file(file, "old")
 
     def refuse(self, call, number, how):
-        """One refusal: how the program ended, and what stands of each file."""
+        """One refusal: how the program ended, and what is left of each file."""
         self.old()
         answer = self.preload.refuse(call, number, how, *self.words)
         left = [self.place.read(file) for file in self.files]

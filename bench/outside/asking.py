@@ -17,7 +17,7 @@ NOBODY = 65534
 SECONDS = 180  # after which a case is stopped: a difference
 HANGS = 3  # so many such cases end their group
 SHOWN = 300  # how much is shown of what differs
-BEFORE = 60  # and how much of that is what stands before
+BEFORE = 60  # and how much of that is what is before
 
 
 class Answer(NamedTuple):

@@ -1,6 +1,6 @@
 """Each named cause of each command, with its line and its sentence.
 
-The numbers of the causes are read off docs/FORMATS.md (`documented`), and a name that stands there
+The numbers of the causes are read off docs/FORMATS.md (`documented`), and a name that is there
 or here alone is a difference. No cause may be told as `memory`, which would be free.
 """
 import os
@@ -30,7 +30,7 @@ WAVES = [
     ("ChannelsOrRate", riff(chunk(b"fmt ", form(channels=9))),
      "only 1 to 8 channels at 1 to 384000 frames a second are read")]
 
-# A POD that is none, what its line says behind the why, and what is said of it.
+# A POD that is none, what its line says after the cause, and what is said of it.
 PODS_AT_FAULT = [
     ("Short", b"", "0", "a POD passes the end of what holds it, at byte 0"),
     ("TypeUnknown", pod(99, b""), "4 99", "a type that is not read, at byte 4"),
@@ -74,7 +74,7 @@ SEQUENCES = [
 
 LINKED = "gain a 1\ngain b 1\nlink a.out b.in\n"
 
-# A script, its fault, the line at fault, and what its line says behind the why.
+# A script, its fault, the line at fault, and what its line says after the cause.
 SCRIPTS = [
     ("Byte", b"gain a 1\x80", 1, ""), ("Byte", b"gain a 1\n# \x80", 2, ""),
     ("Command", "gain a 1\nplay", 2, ""), ("Arguments", "gain a", 1, ""),
@@ -126,7 +126,7 @@ def planned(name):
 
 
 def refused(place, words, status, line, sentence, of=MAIN):
-    """One refusal: its status, its line, and the sentence behind the program's name."""
+    """One refusal: its status, its line, and the sentence after the program's name."""
     answer = place.ask(*words, of=of)
     out = f"{line}\n".encode() if line else b""
     place.same(" ".join(words) + f": {sentence}", (status, out, f"{of}: {sentence}\n"),
@@ -167,7 +167,7 @@ def waves(place):
 
 
 def numbered(rows, numbers):
-    """The rows of PODs with the part of their line behind the place."""
+    """The rows of PODs with the part of their line after the place."""
     return [(content, f"{numbers.get(name)} {more}".strip(), sentence)
             for name, content, more, sentence in rows]
 
@@ -265,7 +265,7 @@ def limits_of_scripts():
 
 
 def sums_of_parts():
-    """A limit, a script of six parts that passes it by their sum alone, and the line."""
+    """A limit, a script of six parts that passes it only by their sum, and the line."""
     alone = "".join(f"square q{i} 48000 8 2 5\nbuffers q{i} out 8\nsink o{i} o{i}.wav\n"
                     f"link q{i}.out o{i}.in\n" for i in range(6))
     links = "".join(f"square a{i} 48000 1 2 5\nmeter b{i}\n" for i in range(16))

@@ -25,34 +25,34 @@ def numbered(pattern, title):
 
 
 def waves():
-    """The whys of `wav`."""
+    """The causes of `wav`."""
     return numbered(ROW, "WAV files")
 
 
 def pods():
-    """The whys 1 to 7 of `pod`."""
+    """The causes 1 to 7 of `pod`."""
     return numbered(r"(\d+) `(\w+)`", "PODs")
 
 
 def formats():
-    """The whys 11 to 16 of `pod`: ten more than the faults of an object that is no format."""
+    """The causes 11 to 16 of `pod`: ten more than the faults of an object that is no format."""
     faults = numbered(r"(\d+)\s`(\w+)`", "Formats with choices")
     return {name: 10 + number for name, number in faults.items()}
 
 
 def sequences():
-    """The whys 19 to 22 of `pod`."""
+    """The causes 19 to 22 of `pod`."""
     return {name: int(why) for name, why in re.findall(
         r"^\| \d+ \| `(\w+)`.*\| (\d+)\D[^|]*\|$", section("Control sequences"), re.M)}
 
 
 def scripts():
-    """The whys of `script`."""
+    """The causes of `script`."""
     return numbered(ROW, "Scripts")
 
 
 def limits():
-    """The numbers of `limit`, but for those of 5 and 6, which a script has as its why 12."""
+    """The numbers of `limit`, but for those of 5 and 6, which a script has as its cause 12."""
     found = numbered(ROW, "Status lines")
     found.pop("memory", None)  # a status of the table before
     return found

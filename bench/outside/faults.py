@@ -10,7 +10,7 @@ OUTPUTS = "is no output; outputs are out, and left and right of a split"
 INPUTS = "is no input; inputs are in, and a and b of a mix2"
 ALONE = "; a comment is a line of its own"
 
-# A line behind START, its why, and what is said of it.
+# A line after START, its cause, and what is said of it.
 LINES = [
     ("gain g2 1\x01", 1, "a byte that no script may have: 1, in column 10"),
     ("gain g2 1\x7f", 1, "a byte that no script may have: 127, in column 10"),

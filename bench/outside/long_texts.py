@@ -40,7 +40,7 @@ def runs(place):
 
 
 def chain(count):
-    """So many gains, each linked to the next and to that behind it."""
+    """So many gains, each linked to the next and to the one after that."""
     nodes = "".join(f"gain g{i} {i}\n" for i in range(count))
     return nodes + "".join(f"link g{i}.out g{i + step}.in\n"
                            for step in (1, 2) for i in range(count - step))

@@ -12,7 +12,7 @@ SYNOPSIS = """usage: pipegraph run SCRIPT [--loops N] [--ticks N] [--trace] [--s
 
 
 def told(place, words, **how):
-    """Status, output and what stands on standard error."""
+    """Status, output and what is on standard error."""
     return place.ask(*words, **how)[:3]
 
 

@@ -1,4 +1,4 @@
-"""Notes on what was accepted, by standard error alone."""
+"""Notes on what was accepted, only by standard error."""
 import os
 
 from messages import told
@@ -14,7 +14,7 @@ gain h 256
 """
 LATE = "it would close a loop, which only a link of an async node may"
 
-# Lines behind START, what is put of their links, and what is noted of each at its line from 8 on.
+# Lines after START, what is put of their links, and what is noted of each at its line from 8 on.
 LINKS = [
     ("link a.out o.in\n", "link a.out o.in 48000 1 2\n", []),
     ("link a.out o.in\nlink b.out o.in\n",

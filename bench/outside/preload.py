@@ -38,7 +38,7 @@ class Preload:
         return answer, {line.split()[0]: int(line.split()[1]) for line in lines}
 
     def refuse(self, call, number, how, *words, **more):
-        """The answer where the call of this number fails, is short, or fails as all behind it do.
+        """The answer where the call of this number fails, is short, or fails as all after it do.
 
         `how` is `fail`, `short` or `on`.
         """

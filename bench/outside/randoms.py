@@ -117,7 +117,7 @@ def pods(place):
 
 
 def random_word(draw, names):
-    """A word as may stand in a script, and some that may not."""
+    """A word as may be in a script, and some that may not."""
     name = draw.choice(names + ["dummy", "q9"])
     return draw.choice([name, name, f"{name}.{draw.choice(PORTS)}", draw.choice(PORTS),
                         str(draw.choice(AMOUNTS)), draw.choice(ODD_WORDS)])

@@ -1,6 +1,6 @@
 """Readers of WAV files and PODs, from the tables of docs/FORMATS.md and apart from the program.
 
-They say which line is printed of a file. A refusal carries the numbers that stand in the line.
+They say which line is printed of a file. A refusal carries the numbers that are in the line.
 """
 import struct
 

@@ -30,7 +30,7 @@ LOADS = [
     (["wave", "FILE"], "wav", 1, PICTURES), (["gains", "FILE", "never"], "list", None, PODS),
     (["pod", "FILE", "never"], "list", None, PODS)]
 
-# The words of each store, with FILE for the file, the place that is told, and the program.
+# The words of each store, with FILE for the file, the place that is reported, and the program.
 STORES = [
     (["run", "sink.graph"], 2, MAIN), (["groups", "sink.graph"], 2, MAIN),
     (["filter", "good.pod", "good.pod", "FILE"], 3, MAIN),

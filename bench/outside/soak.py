@@ -26,7 +26,7 @@ def line_of(number):
     sums = [0] * frames
     for i, (samples, gain, delay) in enumerate(chains):
         given = list(samples)
-        if i == off:  # for 50 cycles behind the first 100 the source gives nothing
+        if i == off:  # for 50 cycles after the first 100 the source gives nothing
             given[100 * QUANTUM:100 * QUANTUM] = [0] * (50 * QUANTUM)
         given += [0] * (frames - len(given))
         late = [0] * delay + [model.clamp(s * gain >> 8) for s in given]

@@ -12,7 +12,7 @@ FAN = ("quantum 2\n" + "".join(f"square s{i} 48000 1 2 {100 + i}\n" for i in ran
 CHAIN = ("quantum 2\nmeter m\ndriver m 1\ngain c 100\ngain b 300\nsquare a 48000 1 2 100\n"
          "gain z 256\nlink a.out b.in\nlink b.out c.in\nlink c.out m.in\nlink a.out z.in\n"
          "link z.out m.in\n")
-# One node alone drives: it has no follower, so nothing is asked.
+# A single node drives: it has no follower, so nothing is asked.
 LONE = "sink o o.wav\ndriver o 1\n"
 SCRIPTS = [FAN + "cycles 20\n", CHAIN + "cycles 9\noff z\ncycles 8\n", LONE + "cycles 5\n"]
 

@@ -41,7 +41,7 @@ class Cycle:
 
 
 def verdict(cycles, lines):
-    """`legal`, or the first event that cannot stand where it does."""
+    """`legal`, or the first event that cannot be where it is."""
     at = 0
     for i, line in enumerate(lines, 1):
         words = line.split()

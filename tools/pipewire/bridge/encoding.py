@@ -1,6 +1,6 @@
 """A format in pw-dump's JSON as the bytes of a POD, to be offered to a daemon.
 
-Source: PipeWire's documentation, "SPA POD"; spa/pod/pod.h. The recorder alone uses it: the tools
+Source: PipeWire's documentation, "SPA POD"; spa/pod/pod.h. Only the recorder uses it: the tools
 leave PODs to pipegraph-pods.
 """
 import struct

@@ -26,7 +26,7 @@ class Engine:
 
 
 def engine_of(dump, only=None):
-    """The graph of a dump; with `only`, a group, of its nodes alone."""
+    """The graph of a dump; with `only`, a group, of only its nodes."""
     engine = Engine()
     nodes = audio_nodes(dump, engine)
     if only is None:
@@ -61,7 +61,7 @@ def audio_nodes(dump, engine):
 
 
 def of_group(engine, nodes, group):
-    """The nodes of a group; the others are told."""
+    """The nodes of a group; the others are reported."""
     for node in nodes:
         if node.id not in group.ids:
             engine.leave_out(node.said, "another driver's, of which the log tells nothing")

@@ -16,7 +16,7 @@ OLDER = "was at work since before the cycle"
 
 @dataclass
 class History:
-    """The lines of each cycle that is written, the graph that they are of, and what is told."""
+    """The lines of each cycle that is written, the graph that they are of, and what is reported."""
     engine: object
     period: int
     cycles: list = field(default_factory=list)
@@ -87,7 +87,7 @@ class Cycles:
         self.logged, self.last = set(), None
 
     def add(self, place, row):
-        """Adds the cycle of a row, or tells why it is left out."""
+        """Adds the cycle of a row, or reports why it is left out."""
         repeated, self.last = row.repeats(self.last), row
         if repeated:
             return self.tell(f"{place}: left out: the line before it again")

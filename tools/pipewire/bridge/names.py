@@ -17,7 +17,7 @@ def fit(name, room=LONGEST):
 
 
 def fit_names(named):
-    """A fit name for each of (id, name): where two are alike, each has its id behind it."""
+    """A fit name for each of (id, name): where two are alike, each has its id after it."""
     plain = [(id, fit(name)) for id, name in named]
     count = {}
     for _, name in plain:

@@ -32,7 +32,7 @@ def players(daemon):
 
 
 def loopbacks(daemon):
-    """A player through two loopbacks one behind the other, beside a player without."""
+    """A player through two loopbacks one after the other, beside a player without."""
     daemon.loopback("second", {"node.name": "second.in", "media.class": "Audio/Sink"},
                     {"node.name": "second.out", "target.object": "sinkA"})
     daemon.loopback("first", {"node.name": "first.in", "media.class": "Audio/Sink"},

@@ -53,7 +53,7 @@ class Step:
 
     @property
     def kind(self):
-        """What the step is in a script. One that gives through its monitor stands between."""
+        """What the step is in a script. One that gives through its monitor is between."""
         if not self.entry.audio(True):
             return "square"
         is_end = not self.exit.audio(False) and not self.gives

@@ -28,7 +28,7 @@ class Wire:
 
 
 def make_wires(dump, engine):
-    """The links between steps, without those that the engine cannot have, which are told."""
+    """The links between steps, without those that the engine cannot have, which are reported."""
     pairs, wires = {}, []
     for link in sorted(dump.links, key=lambda link: link.id):
         source, target = engine.step_of(link.output_node), engine.step_of(link.input_node)

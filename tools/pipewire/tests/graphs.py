@@ -119,7 +119,7 @@ def drivers_have_their_order(asking):
 
 
 def monitors_of_followers_are_links(asking):
-    """A sink that follows may be heard in the same cycle: it stands between."""
+    """A sink that follows may be heard in the same cycle: it is between."""
     dump = MadeUp()
     driver = dump.node("driver", inputs=1, node_driver=True, priority_driver=2)
     middle = dump.node("middle", inputs=1, outputs=1, node_driver=True)
@@ -135,7 +135,7 @@ def monitors_of_followers_are_links(asking):
 
 
 def channels_of_a_part_are_one(asking):
-    """A mono source into a stereo sink is told, and the script runs."""
+    """A mono source into a stereo sink is reported, and the script runs."""
     dump = MadeUp()
     sink = dump.node("sink", inputs=2, node_driver=True)
     mono = dump.node("mono", outputs=1)

@@ -1,6 +1,6 @@
-"""The commands of docs/PIPEWIRE.md print what stands below them.
+"""The commands of docs/PIPEWIRE.md print what is below them.
 
-They stand in blocks that are indented by four spaces: a line that begins with "$ " is run, in a
+They are in blocks that are indented by four spaces: a line that begins with "$ " is run, in a
 folder that has tools/ and demo/, and the lines below it are all that it prints.
 """
 import os

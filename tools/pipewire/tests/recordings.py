@@ -72,11 +72,11 @@ end 68
 
 # late.log: lines 1 to 19 are whole, with ten events each (three players, the sink, begin and end):
 # 190. Line 20 is of the cycle of line 21. There `stopped` is not awake: begin, first 23 44 and
-# third 90 105 make 195, the tick is 196, and the driver's start cannot stand: 197.
+# third 90 105 make 195, the tick is 196, and the driver's start cannot be there: 197.
 FIRST_ILLEGAL = 197
 
 # tap.log: lines 1 to 20 are whole, with eight events each: 160. In line 22 `recorder` is not awake:
-# begin, player 20 38 make 163, the tick is 164, and the driver's start cannot stand: 165.
+# begin, player 20 38 make 163, the tick is 164, and the driver's start cannot be there: 165.
 FIRST_ILLEGAL_OF_TAP = 165
 
 # leftover.log: lines 1 to 14 are whole, with eight events each: 112. In line 16 the recorder is
@@ -161,7 +161,7 @@ def late_cycles_are_illegal(asking):
 
 
 def left_out_by_name(asking):
-    """What is left out is told by name."""
+    """What is left out is reported by name."""
     dump, log = recording("monitor")
     told = asking.tool("graph", dump, log).errors
     asking.same("monitor: graph tells", [
