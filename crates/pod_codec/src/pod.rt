@@ -30,7 +30,7 @@ pub enum Pod {
     },
     Bitmap(Text),
     Fd(i64),
-    /// Values of one type, whose number is `child`; 1 where there is none.
+    /// Values of one type, whose number is `child`; without a value it may be 1, no type.
     Array {
         child: u32,
         values: Items<Pod>,
