@@ -7,8 +7,8 @@ use Rattle.board_rule.specs.events.Bits.{woke_of}
 use Rattle.board_rule.specs.Layout.{BoardLayout}
 use Rattle.board_rule.specs.Steps.{settles}
 
--- from the view v to the view w, the first i targets of m are lowered, and none is owed. The seat
--- remembers the word of each, newest first
+-- from the view v to the view w, the first i targets of m are lowered, and no trigger is owed. The
+-- seat remembers the word of each, newest first
 pub record IsTelling (is_driver : Bool) (p : BoardLayout) (v : View) (m i : ℕ)
     (w : View) : Type 0 where
   pub told : map (λ f. f.node) w.trail.told ≡ reverse (map p.number (take i (p.targets m)))

@@ -16,7 +16,7 @@ pub fn names(alloc: Global) -> Result<Items<Text>, Memory>
     Ok(names)
 }
 
-// A node of this kind, which ends with this rate, mono, or with none.
+// A node of this kind, which ends with this rate, mono, or without one.
 fn node(alloc: Global, kind: Kind, rate: u32) -> PlanNode {
     PlanNode {
         name: Items::new(alloc),
@@ -91,7 +91,7 @@ fn epoch(alloc: Global, first: u32, cycles: u32) -> Result<Epoch, Memory> {
     })
 }
 
-/// A plan of an epoch of `first` cycles and one of `second`; an epoch of none is left out.
+/// A plan of an epoch of `first` cycles and one of `second`; an epoch of no cycles is left out.
 pub fn plan(alloc: Global, first: u32, second: u32) -> Result<Plan, Memory> {
     let mut nodes = Items::new(alloc);
     nodes.push(node(alloc, Kind::Source, 0))?;

@@ -39,7 +39,8 @@ pub record IsFirstAt (p : BoardLayout) (v : View) (members : List Member) (least
   pub here : at < length members
       → next_in p v (slice_index_or members at no_member).node ≡ first p + least
 
--- the front now: `least` is the fewest cycles that a member has ended, or all where there is none
+-- the front now: `least` is the fewest cycles that a member has ended, or all where there is no
+-- member
 pub record IsFrontNow (p : BoardLayout) (v : View) (members : List Member) (f : Front)
     : Type 0 where
   pub front : IsFront p v members f

@@ -69,7 +69,7 @@ pub fn rest_unless_called<R: Wait>(rt: &R, ways: &Ways, way: &mut Way)
     }
 }
 
-// One turn; where a node ran, what it woke is passed on, and where none was awake, the thread
+// One turn; where a node ran, what it woke is passed on, and where no node was awake, the thread
 // rests, unless its loop is called soon. Whether it found that no follower has cycles left, and
 // then there is no rest.
 fn try_all<R: Wait, G: Gate>(
@@ -175,8 +175,8 @@ fn go_through<R: Wait, G: Gate>(
 }
 
 /// Turns until all epochs are done: numbers that its queue gives are tried first, and where there
-/// are none all followers; where none is awake, the thread rests, unless its loop is called within
-/// some microseconds. It may wait. Takes no memory.
+/// are none all followers; where no node is awake, the thread rests, unless its loop is called
+/// within some microseconds. It may wait. Takes no memory.
 /// Condition: there is one board an epoch, in order, on which the loop has its seats; none of its
 /// nodes drives; the way is that of a loop whose nodes are those of the state.
 pub fn run_all<R: Wait, G: Gate>(

@@ -107,9 +107,9 @@ impl Stage {
     }
 
     /// One turn: tries the members, those first that have ended the fewest cycles, each in their
-    /// order, and ends with the first that has run. While one is a cycle behind, none that is ahead
-    /// of it can be awake, so that a turn tries few. `found` is empty before; then it has the node
-    /// and the word of each try that was too early. Takes no memory, does not wait.
+    /// order, and ends with the first that has run. While one is a cycle behind, no member that is
+    /// ahead of it can be awake, so that a turn tries few. `found` is empty before; then it has the
+    /// node and the word of each try that was too early. Takes no memory, does not wait.
     pub(crate) fn turn<G: Gate>(
         &mut self,
         scene: &Scene<'_>,

@@ -14,7 +14,7 @@ use pw_outside::Gate;
 use std::sync::Wait;
 
 /// One turn of a loop of the driver's thread, by `turn`; where a node ran, what it woke is sent to
-/// the queues of `ways` by `send_woken`. Whether one ran: where none did, the way is as it was.
+/// the queues of `ways` by `send_woken`. Whether one ran: where no node did, the way is as it was.
 /// Sending may wait. Takes no memory.
 /// Condition: the loop stands on this board, and `way` is the driver's of `ways`.
 pub fn turn_one<R: Wait, G: Gate>(
@@ -41,8 +41,8 @@ pub fn turn_one<R: Wait, G: Gate>(
     }
 }
 
-/// One turn of each of the loops, in order. Whether a node of any of them ran: where none did, the
-/// way is as it was. Sending may wait. Takes no memory.
+/// One turn of each of the loops, in order. Whether a node of any of them ran: where no node did,
+/// the way is as it was. Sending may wait. Takes no memory.
 pub(crate) fn turn_all<R: Wait, G: Gate>(
     at: &Site<'_, R, G>,
     states: &mut [LoopState],

@@ -44,7 +44,7 @@ abbrev pub ReadsEnum : Pod → List Pod → Choice → Type 0
 ReadsEnum wish values (Enum pick alts) = (alts ≡ values) × Prefers wish (Enum pick alts)
 ReadsEnum wish values other = ⊥
 
--- the alternatives after a default: with none it is its own
+-- the alternatives after a default: without one it is its own
 abbrev pub alternatives : Pod → List Pod → List Pod
 alternatives wish [] = wish ∷ []
 alternatives wish (v ∷ rest) = v ∷ rest

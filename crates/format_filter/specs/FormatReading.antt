@@ -30,7 +30,7 @@ pub record AreReadable (props : List Prop) : Type 0 where
   pub distinct : AllPairs (λ p q. key_of p ≢ key_of q) props
   pub readable : All (λ prop. (c : Choice) × ReadsChoice prop c) props
 
--- fields of properties: at the key of each property its field, and at other keys none
+-- fields of properties: at the key of each property its field, and at other keys no field
 pub record AreFieldsOf (props : List Prop) (fields : List Field) : Type 0 where
   pub distinct : AllPairs (λ p q. key_of p ≢ key_of q) props
   pub sound : AreSoundFields fields

@@ -14,7 +14,7 @@ abbrev pub IsBefore : List Pod → Pod → Pod → Type 0
 IsBefore xs p q = (front back : List Pod) × (xs ≡ front ++ back) × Contains front p
     × (Contains front q → ⊥)
 
--- just those of a list for which P holds, in the order in which they are first in it, so none
+-- just those of a list for which P holds, in the order in which they are first in it, so no value
 -- twice
 pub record AreThoseOf (xs : List Pod) (P : Pod → Type 0) (those : List Pod) : Type 0 where
   pub only : (x : Pod) → Contains those x → Contains xs x × P x

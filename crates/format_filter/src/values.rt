@@ -15,7 +15,7 @@ use pod_codec::Pod;
 use pw_lists::{Items, Memory};
 use std::alloc::Global;
 
-/// Those of the values that a choice admits, in their order, none twice.
+/// Those of the values that a choice admits, in their order, no value twice.
 fn common_values(alloc: Global, values: &[Pod], other: &Choice) -> Result<Items<Pod>, Memory>
     requires { HasSoundParts other.now }
     ensures { IfOk result (AreThoseOf values.now (IsMember other.now)) }

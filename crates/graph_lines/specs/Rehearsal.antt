@@ -45,7 +45,7 @@ Rehearses waves g C.Drain stepped after = (stepped ≡ T.Done)
     × ((n : ℕ) × DrainsFor waves g n × GoesPast g n after)
 Rehearses waves g command stepped after = Does g command stepped after
 
--- EVERY LINK that lines make, at whatever line; a line that has 256 links before it makes none
+-- EVERY LINK that lines make, at whatever line; a line that has 256 links before it makes no link
 abbrev pub HasMade : List WavIn → Graph → List Line → List Wire → Type 0
 HasMade waves g [] made = made ≡ []
 HasMade waves g (l ∷ ls) made = (stepped : Stepped) × (next : Graph) × (later : List Wire)

@@ -15,8 +15,8 @@ abbrev pub IsEpochFor : Graph → ℕ → Option Epoch → Type 0
 IsEpochFor g zero made = made ≡ None
 IsEpochFor g (suc n) made = (e : Epoch) × IsEpochOf g (suc n) e × (made ≡ Some e)
 
--- UPCOMING: the epoch of a `cycles` or `drain` line; other lines make none. A drain counts at most
--- one cycle more than there may be events, with which it passes their limit
+-- UPCOMING: the epoch of a `cycles` or `drain` line; other lines make no epoch. A drain counts at
+-- most one cycle more than there may be events, with which it passes their limit
 abbrev pub IsUpcoming : List WavIn → Graph → Command → Option Epoch → Type 0
 IsUpcoming waves g (C.Cycles n) made = IsEpochFor g n made
 IsUpcoming waves g C.Drain made = (n : ℕ) × DrainsUpTo (events_limit + 1) waves g n

@@ -90,8 +90,8 @@ impl Graph {
     /// had a form and how many cycles each node was active in. No epoch is made, and nothing is
     /// summed.
     ///
-    /// `Passed`: a `link` line that has no other outcome where 256 links are there; it makes none,
-    /// and the next line may follow. After `Memory` the graph is to be dropped.
+    /// `Passed`: a `link` line that has no other outcome where 256 links are there; it makes no
+    /// link, and the next line may follow. After `Memory` the graph is to be dropped.
     ///
     /// Public source: PipeWire's documentation, "Graph Scheduling"; the lines are this project's.
     pub fn rehearse(&mut self, command: &Command, waves: &Items<WavIn>) -> Result<Stepped, Memory>

@@ -35,8 +35,8 @@ impl Graph {
     }
 
     /// The epoch that a line would make of the graph, which stays: that of a `cycles` or `drain`
-    /// line, unless it has no cycle; other lines make none. A drain of more cycles than there may
-    /// be events is cut to one more than that, which passes the limit of events whatever it is.
+    /// line, unless it has no cycle; other lines make no epoch. A drain of more cycles than there
+    /// may be events is cut to one more than that, which passes the limit of events whatever it is.
     /// `waves` are those of the sources.
     ///
     /// Cost: that of `epoch_of`.

@@ -97,7 +97,7 @@ words_caused expected before now S.WriteFault h = absurd h
 words_caused expected before now (S.Limit place which) h = tt
 words_caused expected before now S.Memory h = tt
 
--- words that ask for a picture fault none
+-- words that ask for a picture have no fault
 good_usage : (expected : Result Request Status) (request : Request) (status : Status) → expected ≡ Ok request → IsNoUsage status
     → IsUsage expected status
 good_usage expected request status is plain = record {

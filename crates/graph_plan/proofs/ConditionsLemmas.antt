@@ -21,7 +21,7 @@ use Rattle.port_model.specs.PortState.{kind_of, AtPort}
 use Rattle.graph_plan.specs.Conditions.{IsWaveFor, HaveWaves}
 use Rattle.graph_plan.proofs.lists.PlaceLemmas.{left, at_end, parted}
 
--- counts of a list with one thing more, and of none
+-- counts of a list with one thing more, and of an empty one
 count_push : {X : Type 0} (p : X → Bool) (xs : List X) (x : X) → count_by p (xs ++ x ∷ []) ≡ count_by p xs + cond (p x) 1 0
 count_push p xs x =
     let both = sum_by-append (λ y. cond (p y) 1 0) xs (x ∷ []) in

@@ -39,7 +39,7 @@ abbrev pub Moves : List WavIn → Line → Member → Member → Type 0
 Moves waves l m after = (after.nodes ≡ m.nodes)
     × MovesIf (is_line_of m.nodes l) waves m.graph l.command after.graph
 
--- the epoch of a `cycles` or `drain` line of some cycles; other lines make none
+-- the epoch of a `cycles` or `drain` line of some cycles; other lines make no epoch
 abbrev pub Makes : List WavIn → Graph → Command → Option Epoch → Type 0
 Makes waves g (C.Cycles n) made = IsEpochFor g n made
 Makes waves g C.Drain made = (n : ℕ) × DrainsFor waves g n × IsEpochFor g n made

@@ -7,7 +7,7 @@ use crate::links::{LINKS, Links};
 use pw_graph::NODES;
 
 /// The synchronous links that leave each node, from the last one back. A link is given by how many
-/// links there are up to it; 0 is none.
+/// links there are up to it; 0 is no link.
 #[derive(Drop)]
 pub struct Outgoing {
     /// Of each node the last link that leaves it.

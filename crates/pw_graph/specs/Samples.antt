@@ -41,6 +41,6 @@ abbrev pub picked : ℕ → List ℕ → List ℤ → List ℤ
 picked channels list row = of_frames (length row / channels) (length list)
     (λ i j. sample_at channels row i (slice_index list j))
 
--- the greatest absolute value, 0 of none
+-- the greatest absolute value, 0 of no samples
 abbrev pub peak_of : List ℤ → ℕ
 peak_of row = fold (λ top s. max top (unsigned_abs s)) 0 row

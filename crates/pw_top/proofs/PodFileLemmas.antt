@@ -55,7 +55,7 @@ module _ {T : Type 0} (As : Pod → Result T Status → Type 0) (place : ℕ) (b
       let value = reads_gives (HoldsPod place bytes) pod held in
       part_more [] (As pod) (HoldsAs As place bytes) r (λ outcome p. (Ok pod, value, p)) read
 
-  -- it holds none
+  -- it holds no value
   pub holds_none : (status : Status) → Ends (Reads (HoldsPod place bytes)) (Err status) → Ends (Reads (HoldsAs As place bytes)) (Err status)
   holds_none status h = ⊎_elim
       (λ refusal. part_refuses [] (HoldsAs As place bytes) status (Err status, refusal.0, refl) refusal.1)

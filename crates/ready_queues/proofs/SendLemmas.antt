@@ -95,7 +95,7 @@ module _ (owner : List ℕ) (woke number : ℕ) where
       one false = refl
 
 module _ (owner : List ℕ) (spared : ℕ) where
-  -- none given
+  -- no node given
   wakes_none : (number : ℕ) (e : End) (k : ℕ) → k ≡ 0 → wakes_of e ≡ given_on (wakes_of e) (wakes_for spared number k)
   wakes_none number e k none = ap (λ n. record { given = n; taken = (wakes_of e).taken }) (by (eqb number spared))
     where

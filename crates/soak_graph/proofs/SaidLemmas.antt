@@ -29,7 +29,7 @@ use Rattle.soak_graph.specs.SoakText.{digit, source_line, gain_line, delay_line}
 use Rattle.soak_graph.proofs.ReadingLemmas.{Reading, Said, IsSaid, is_word, word_is, said_of_words, line_limit}
 use Rattle.soak_graph.proofs.NumberLemmas.{signed-word, signed-short, decimal-word, number_arg-decimal, integer_arg-decimal}
 
--- a line that makes a node, and one that makes none
+-- a line that makes a node, and one that makes no node
 abbrev pub made_said : List ℕ → Command → List ℕ → Kind → List ℕ × Said
 made_said line command name kind = (line, record { command = command; made = Some (record { name = name; kind = kind }) })
 

@@ -3,7 +3,7 @@
 //! A visit of a cell that is not ready is not free: the cell is moved to the thread's processor and
 //! leaves that of the thread that runs it. So threads look for signs first: bit n of one word is
 //! 1 once node n was woken, until a thread takes it up. A sign is only a hint: contracts see
-//! nothing of it, and a thread that finds none for a while visits all cells.
+//! nothing of it, and a thread that finds no sign for a while visits all cells.
 ghost use Rattle.std.specs.Prelude.{◌<◌, IfSome, Some};
 ghost use Rattle.steal_loops.specs.working.NodeSets.{IsBut};
 

@@ -1,4 +1,4 @@
--- By the rule of the shelf no cell is with two seats, and none is lost.
+-- By the rule of the shelf no cell is with two seats, and no cell is lost.
 use Rattle.std.proofs.Common.{◌≡◌, ℕ, zero, suc, ◌<◌, ◌∙◌, List, [], ◌∷◌, length, sym, refl, arith, inl, inr, ⊎_elim}
 use Rattle.std.specs.Prelude.{Some, slice_get}
 use Rattle.data_loop.specs.declared.loop_state.LoopState.{LoopState}

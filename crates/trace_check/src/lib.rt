@@ -1,5 +1,5 @@
-//! Whether the events of a trace are a legal history of a plan, and if not, after which event none
-//! can follow.
+//! Whether the events of a trace are a legal history of a plan, and if not, after which event no
+//! legal history can follow.
 //!
 //! `check` goes over the events once. Of the cycle that it is in it keeps which nodes have started
 //! and finished, as sets of node numbers, and of the epoch which nodes have to finish before each.

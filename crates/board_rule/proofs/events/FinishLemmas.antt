@@ -29,7 +29,8 @@ module _ (p : BoardLayout) where
     pub wrote : (l : ℕ) (k : ShapeLink) → LinkAt p l k → p.index k.from.node ≡ m → (ends.writes l).stored ≡ (s m).begun
     pub gave : (l : ℕ) (k : ShapeLink) → LinkAt p l k → p.index k.to.node ≡ m → (ends.reads l).stored ≡ (s m).begun
 
-  -- the block that m announced in this cycle: no other of its pool is being filled, and none is due
+  -- the block that m announced in this cycle: no other of its pool is being filled, and no block is
+  -- due
   newest : (s : ℕ → Span) (ends : Ends) (e : Samples) (ws : List ℕ) (m q : ℕ) (x : PoolShape) → Wired p → Paced p s → Ready s ends m
       → (s m).begun ≡ (s m).ended + 1 → Buffers p s ends e ws → PoolAt p q x → p.index x.port.node ≡ m
       → (b : ℕ) → b < x.blocks → is_busy (ends.blocks q b) ≡ true

@@ -14,7 +14,7 @@ use Rattle.board_rule.specs.View.{node_of, view_node}
 use Rattle.board_rule.specs.activation.SeatNodes.{HasNode, driven}
 pub use Rattle.board_rule.specs.activation.Taken.{lowered_of, taken_of, taken}
 
--- LOWERING A TARGET: one is left, and none is owed
+-- LOWERING A TARGET: one is left, and no trigger is owed
 abbrev pub CanTell : ℕ → Phase → Type 0
 CanTell n (Telling i false) = i < n
 CanTell n _ = ⊥

@@ -34,8 +34,8 @@ module _ (p : BoardLayout) where
       × (block_at p q b < length v.blocks)
       × HasNode false p v (filler_of p q) × IsRunning false v (filler_of p q)
 
-  -- STORING A SAMPLE WORD of this cycle: the block is filled up to the word, or it is free and none
-  -- of its pool is due or of this cycle
+  -- STORING A SAMPLE WORD of this cycle: the block is filled up to the word, or it is free and no
+  -- block of its pool is due or of this cycle
   abbrev pub CanFill : View → ℕ → ℕ → ℕ → ℕ → Type 0
   CanFill v q b i c = (block_of p v q b ≡ Filling i)
       ⊎ ((block_of p v q b ≡ Free) × (i ≡ 0) ×

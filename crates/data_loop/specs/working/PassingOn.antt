@@ -18,7 +18,7 @@ use Rattle.data_loop.specs.LoopWay.{RestsAtMost}
 abbrev pub Forwards : Ways → ℕ → Way → Way → Type 0
 Forwards ways woke a b = (full : ℕ) × HasForwarded ways.owner ways.loops woke full a b
 
--- PASSED ON: where a node ran, what it woke is forwarded; where none did, the way is as before
+-- PASSED ON: where a node ran, what it woke is forwarded; where no node did, the way is as before
 abbrev pub PassesOn : Ways → Did → LoopState → Way → Way → Type 0
 PassesOn ways (Ran node) t a b = Forwards ways t.woke a b
 PassesOn ways Idle t a b = b ≡ a
@@ -28,7 +28,7 @@ abbrev pub HasRunOne : BoardLayout → Ways → LoopState → Way → LoopState 
 HasRunOne p ways s a t b = (node : ℕ) × HasTurnedOnce p s (Ran node) t × HasWoken (Ran node) t
     × Forwards ways t.woke a b
 
--- in which none was awake; the thread may have rested after it
+-- in which no node was awake; the thread may have rested after it
 abbrev pub HasRunNone : BoardLayout → LoopState → Way → LoopState → Way → Type 0
 HasRunNone p s a t b = HasTurnedOnce p s Idle t × RestsAtMost a b
 

@@ -165,8 +165,8 @@ fn counted_nodes(alloc: Global, shape: &Shape) -> Result<Items<ShapeNode>, Memor
 }
 
 /// The same shape, each of whose nodes has its required count and its targets: several links
-/// between two nodes make one dependency, and delayed links make none. Cost: for each node two
-/// looks at each link and each node.
+/// between two nodes make one dependency, and delayed links make no dependency. Cost: for each node
+/// two looks at each link and each node.
 pub fn counted(alloc: Global, shape: Shape) -> Result<Shape, Memory>
     requires links { All IsWithinNodes shape.links }
     requires few { length shape.nodes ≤ 64 }

@@ -50,7 +50,7 @@ impl SinkState {
         self.stream.as_slice()
     }
 
-    /// Moves the stream out, and leaves none, and no room. Takes no memory.
+    /// Moves the stream out, and leaves no sample, and no room. Takes no memory.
     pub(crate) fn take_stream(&mut self, alloc: Global) -> Items<i16>
         ensures taken { result ≡ self.old.list }
         ensures list { self.new.list ≡ [] }

@@ -1,4 +1,4 @@
--- What the one value gives, the file gives; and it gives none where it holds none.
+-- What the one value gives, the file gives; and it gives nothing where it holds no value.
 use Rattle.pw_top.specs.FormatFile.{IsFormatIn}
 use Rattle.pw_top.proofs.PodFileLemmas.{holds, holds_none}
 use Rattle.pw_top.proofs.format_file.format_step.Goals as goal
