@@ -54,7 +54,6 @@ module _ (p : BoardLayout) where
     pub late_later : (k : ℕ) → c < k → k < last p → r.late (k - first p) ≡ 0
 
   -- THE CYCLE: the events between Begin and End, by the phases, each after those that precede it
-  -- it
   pub record Inside (c late : ℕ) (k : Counts) (inside : List Event) : Type 0 where
     pub only : All (IsSoFar c late) inside
     pub starts : (n : ℕ) → n < nodes p
