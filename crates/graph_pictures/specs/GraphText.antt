@@ -44,8 +44,8 @@ statement_text names fates number (C.Off node) =
 statement_text names fates number command =
     option_map_or (λ m. node_text names m.0 command) (made_by command) []
 
--- THE PICTURE of a script, and of what its run did, by the lines of its text: none where it is not
--- known
+-- THE PICTURE of a script, and of what its run did, by the lines of its text; without a run there
+-- are no lines
 unfoldable pub graph_text : Script → List (List ℕ) → List ℕ
 graph_text script run = head_text
     ++ flat_map (λ l. statement_text script.names (fates_of script.lines run) l.line l.command)
