@@ -1,4 +1,4 @@
-/* twin run SCRIPT plain             the work on the samples alone, by one thread
+/* twin run SCRIPT plain             the work on only the samples, by one thread
    twin run SCRIPT board [LOOPS]     by the steps of a board, so many loops beside the driver's
    twin make FILE CHANNELS FRAMES SEED     a WAV file of noise
    twin gain IN OUT GAIN             one gain from file to file in pieces of 256 KiB
