@@ -1,6 +1,6 @@
 //! The late check: which followers have not finished the cycle when the driver's seat looks.
 ghost use Rattle.board_rule.specs.OnBoard.{IsOn, layout};
-ghost use Rattle.pw_graph.specs.Limits.{dummy_node};
+ghost use Rattle.pw_lists.specs.Limits.{dummy_node};
 ghost use Rattle.std.specs.Prelude.{◌≡◌, ◌≢◌, true, false, ℕ, ◌+◌, ◌<◌, ◌≤◌, cond, eqb, slice_index};
 ghost use Rattle.pw_graph.specs.Layout.{event_count};
 ghost use Rattle.pw_graph.specs.Words.{finished_word};

@@ -2,7 +2,8 @@
 
 use graph_script::parse;
 use plan_tests::plan_text;
-use pw_graph::{Epoch, Plan, SCRIPT_BYTES_LIMIT};
+use pw_graph::{Epoch, Plan};
+use pw_lists::SCRIPT_BYTES_LIMIT;
 use std::alloc::Global;
 
 // A length as a number of 32 bits, 0 where it has none.

@@ -1,7 +1,7 @@
 //! The kernel of each kind, as often as a node of it calls it; copies, a ring and a plain loop
 //! where there is none.
 ghost use Rattle.std.specs.Prelude.{◌≡◌, ◌*◌, ◌<◌, ◌≤◌, length, All};
-ghost use Rattle.pw_graph.specs.Limits.{quantum_limit};
+ghost use Rattle.pw_lists.specs.Limits.{quantum_limit};
 ghost use Rattle.s16_mixer.specs.Ranges.{IsGain};
 
 use crate::ring::delay_run;

@@ -1,7 +1,7 @@
 //! A node of each kind, run after run of quanta.
 ghost use Rattle.std.specs.Prelude.{◌≡◌, ◌+◌, ◌*◌, ◌≤◌, length, option_copied};
 ghost use Rattle.pw_graph.specs.KindRanges.{IsInRange};
-ghost use Rattle.pw_graph.specs.Limits.{quantum_limit};
+ghost use Rattle.pw_lists.specs.Limits.{quantum_limit};
 ghost use Rattle.pw_graph.specs.SoundShape.{IsBetween};
 ghost use Rattle.node_state.specs.Slices.{AllowsChannels, HaveFrames};
 ghost use Rattle.node_state.specs.Streams.{HasItsWave, channels_of};

@@ -10,7 +10,7 @@ use Rattle.pw_graph.specs.declared.event.Event.{Event}
 use Rattle.pw_graph.specs.declared.event.Event.TheVariants.{Start, Finish}
 use Rattle.pw_graph.specs.EventWords.{event_word_of}
 use Rattle.pw_graph.specs.Layout.{event_count, event_place, status_place}
-use Rattle.pw_graph.specs.Limits.{dummy_node}
+use Rattle.pw_lists.specs.Limits.{dummy_node}
 use Rattle.board_rule.specs.declared.view.Phase.{Phase}
 use Rattle.board_rule.specs.declared.view.Phase.TheVariants.{Idle, Awake, StartDrawn, Done, FinishDrawn}
 use Rattle.board_rule.specs.declared.view.DriverPhase.TheVariants as drives

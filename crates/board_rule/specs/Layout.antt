@@ -5,7 +5,7 @@ use Rattle.std.specs.Prelude.{◌≡◌, ◌≢◌, ℕ, ◌+◌, ◌^◌, ◌<�
 use Rattle.std.specs.Prelude.{slice_index_or}
 use Rattle.pw_graph.specs.declared.shape.Shape.{Shape}
 use Rattle.pw_graph.specs.Dependencies.{nodes_of, Precedes}
-use Rattle.pw_graph.specs.Limits.{events_limit, dummy_node}
+use Rattle.pw_lists.specs.Limits.{events_limit, dummy_node}
 use Rattle.pw_graph.specs.Layout.{node_count, event_count}
 use Rattle.board_rule.specs.declared.board_shape.BoardShape.{BoardShape}
 use Rattle.board_rule.specs.Sums.{total, times}

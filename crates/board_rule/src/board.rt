@@ -1,6 +1,6 @@
 //! A board: the words of one epoch that all threads share.
 ghost use Rattle.std.specs.Prelude.{◌≡◌, ◌+◌, ◌<◌, ◌≤◌, ◌^◌, [], length, slice_index};
-ghost use Rattle.pw_graph.specs.Limits.{dummy_node};
+ghost use Rattle.pw_lists.specs.Limits.{dummy_node};
 ghost use Rattle.pw_graph.specs.Layout.{pending_place, status_place, late_place, event_place, event_count, area_count};
 ghost use Rattle.board_rule.specs.Layout.{layout_of, IsSound, nodes, first, last, word_count};
 ghost use Rattle.board_rule.specs.working.Rows.{HasRows, HasIndexes};

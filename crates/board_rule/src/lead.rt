@@ -1,6 +1,6 @@
 //! What the driver's seat keeps to step by. Its phase is in contracts only.
 ghost use Rattle.std.specs.Prelude.{◌≡◌, ◌<◌, ◌≤◌, ◌^◌, cond};
-ghost use Rattle.pw_graph.specs.Limits.{dummy_node};
+ghost use Rattle.pw_lists.specs.Limits.{dummy_node};
 ghost use Rattle.pw_graph.specs.EventWords.{event_node};
 ghost use Rattle.board_rule.specs.start.StartViews.{resting};
 ghost use Rattle.board_rule.specs.working.DriverProgress.{lead_progress_of, told_so_far, reset_so_far, due_ticket, due_event, lead_drawn, lead_stored, is_begin};

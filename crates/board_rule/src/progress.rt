@@ -1,7 +1,7 @@
 //! What the seat of a loop keeps of a follower to step by. The phases themselves are in contracts
 //! only.
 ghost use Rattle.board_rule.specs.OnBoard.{layout};
-ghost use Rattle.pw_graph.specs.Limits.{dummy_node};
+ghost use Rattle.pw_lists.specs.Limits.{dummy_node};
 ghost use Rattle.std.specs.Prelude.{◌≡◌, ◌<◌, ◌≤◌, ◌^◌, true, cond, eqb};
 ghost use Rattle.pw_graph.specs.declared.event.Event.TheVariants.{Start, Finish};
 ghost use Rattle.pw_graph.specs.EventWords.{event_node};

@@ -1,6 +1,6 @@
 //! Files that are longer than they may be.
 
-use pw_graph::Which;
+use pw_lists::Which;
 use pw_lists::{Items, Memory, Text};
 use pw_outside::{FileFail, Files, Loaded};
 use pw_top::Status;

@@ -1,6 +1,6 @@
 //! PODs in files: what `dump` prints, and why a file is refused.
 
-use pw_graph::Which;
+use pw_lists::Which;
 use pw_top::{PodWhy, Status};
 use row_files::{Faults, Held, RUN, Row, SURE, blanks, first_unlike, is_so_with};
 use std::sync::Wait;

@@ -1,6 +1,6 @@
 //! Scripts and waves that are refused, and by which cause.
 
-use pw_graph::Which;
+use pw_lists::Which;
 use pw_top::Status;
 use row_files::{RUN, Row, S_WAV, SCRIPT, blanks, first_unlike, is_so_with};
 use std::sync::Wait;

@@ -13,8 +13,8 @@ use Rattle.std.proofs.lemmas.Nat.{div-add-mod'}
 use Rattle.std.proofs.Math.Seq.{drop-cons}
 use Rattle.s16_mixer.proofs.LaneLemmas.{piece_written, piece_length}
 use borrow.Rule.Slice.PartMut.{put_mid}
-use Rattle.pw_graph.specs.Samples.{scaled}
-use Rattle.pw_graph.specs.KindRanges.{IsGain}
+use Rattle.pw_lists.specs.Samples.{scaled}
+use Rattle.pw_lists.specs.Samples.{IsGain}
 use Rattle.control_sequence.specs.declared.points.Point.{Point}
 use Rattle.control_sequence.specs.Automation.{gain_after, gain_at, automated, AreBehind, IsBefore}
 

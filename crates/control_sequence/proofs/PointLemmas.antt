@@ -18,7 +18,7 @@ use Rattle.control_sequence.specs.declared.points.Point.{Point}
 use Rattle.control_sequence.specs.declared.fault.ControlFault.{ControlFault}
 use Rattle.control_sequence.specs.Points.{gain_in, gain_of, gain_value, point_in, fault_in, faults_of, points_or}
 use Rattle.control_sequence.specs.Automation.{ArePoints}
-use Rattle.pw_graph.specs.KindRanges.{IsGain}
+use Rattle.pw_lists.specs.Samples.{IsGain}
 
 -- the faults of controls from this place on, after one with this offset
 abbrev pub faults_from : ℕ → ℕ → List Control → List ControlFault

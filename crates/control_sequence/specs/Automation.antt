@@ -6,8 +6,8 @@ use Rattle.std.specs.Prelude.{◌≡◌, ℕ, ◌+◌, ◌/◌, ◌<◌, ◌≤�
 use Rattle.std.specs.Prelude.{if◌then◌else◌}
 use Rattle.std.specs.List.{enumerate_from}
 use Rattle.std.specs.Coded.{Coded, code_by, coded×, coded_list, coded_ℕ, coded_ℤ}
-use Rattle.pw_graph.specs.KindRanges.{IsGain}
-use Rattle.pw_graph.specs.Samples.{scaled}
+use Rattle.pw_lists.specs.Samples.{IsGain}
+use Rattle.pw_lists.specs.Samples.{scaled}
 use Rattle.control_sequence.specs.declared.points.Point.{Point}
 
 -- points: gains in range, and offsets that do not fall

@@ -4,7 +4,7 @@ use Rattle.std.specs.Prelude.{ℕ, ◌==◌, List, Option, Some, None}
 use Rattle.std.specs.Prelude.{ℤ, unsigned_abs, nat_le, option_map}
 use Rattle.std.specs.Prelude.{if◌then◌else◌}
 use Rattle.std.specs.List.{find}
-use Rattle.pw_graph.specs.Limits.{gain_limit}
+use Rattle.pw_lists.specs.Limits.{gain_limit}
 use Rattle.pod_codec.specs.declared.pod.Pod.{Pod}
 use Rattle.pod_codec.specs.declared.pod.Prop.{Prop}
 use Rattle.pod_codec.specs.declared.pod.Control.{Control}

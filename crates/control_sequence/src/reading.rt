@@ -8,7 +8,7 @@ ghost use Rattle.control_sequence.specs.Automation.{ArePoints};
 use crate::fault::ControlFault;
 use crate::points::{Point, Points};
 use pod_codec::{Control, Pod, Prop};
-use pw_graph::GAIN_LIMIT;
+use pw_lists::GAIN_LIMIT;
 use pw_lists::Items;
 use std::alloc::Global;
 

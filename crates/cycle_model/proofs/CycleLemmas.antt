@@ -13,7 +13,7 @@ use Rattle.pw_graph.specs.declared.shape.ShapeLink.{ShapeLink}
 use Rattle.pw_graph.specs.declared.plan.Epoch.{Epoch}
 use Rattle.pw_graph.specs.declared.plan.Plan.{Plan}
 use Rattle.pw_graph.specs.declared.plan.PlanNode.{PlanNode}
-use Rattle.pw_graph.specs.Samples.{clamped, silence, summed}
+use Rattle.pw_lists.specs.Samples.{clamped, silence, summed}
 use Rattle.pw_graph.specs.KindFunction.{KindInputs, kind_output}
 use Rattle.pw_graph.specs.KindPorts.{input_count, output_count, port_count}
 use Rattle.pw_graph.specs.PlanForms.{kind_at}

@@ -25,7 +25,7 @@ use Rattle.pw_graph.specs.KindRanges.{IsInRange}
 use Rattle.pw_graph.specs.PlanForms.{kind_at}
 use Rattle.pw_graph.specs.Pools.{is_same_port, is_before, with_port, sources_of, links_from, pool_of, pools_of}
 use Rattle.pw_graph.specs.Pools as pools
-use Rattle.pw_graph.specs.Samples.{clamped, summed, silence}
+use Rattle.pw_lists.specs.Samples.{clamped, summed, silence}
 use Rattle.pw_graph.specs.SoundPlan.{FollowFrom, IsSoundEpoch, IsSoundPlan}
 use Rattle.pw_graph.proofs.PoolLemmas.{same_port, port_same}
 use Rattle.pw_graph.proofs.PrecedenceLemmas.{holds_at}

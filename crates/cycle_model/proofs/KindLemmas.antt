@@ -11,7 +11,7 @@ use Rattle.std.proofs.lemmas.Slice.Zip.{length-zip, get_or-zip}
 use Rattle.std.proofs.lemmas.Bool.{cases_lt, cond-true, cond-false, lt-ltb, le-ltb}
 use Rattle.pw_graph.specs.declared.kind.Kind.{Kind}
 use Rattle.pw_graph.specs.declared.kind.Kind.TheVariants.{Source, Square, Gain, Mix2, Delay, Map, Split, Sink, Meter, Dummy}
-use Rattle.pw_graph.specs.Samples.{scaled, mixed, sample_at, of_frames}
+use Rattle.pw_lists.specs.Samples.{scaled, mixed, sample_at, of_frames}
 use Rattle.pw_graph.specs.KindFunction.{KindInputs, kind_output}
 use Rattle.cycle_model.specs.Cycle.{last_of}
 use Rattle.cycle_model.specs.KindSamples.{kind_sample, kind_length}

@@ -11,7 +11,7 @@ use Rattle.pw_graph.specs.declared.kind.Kind.{Kind}
 use Rattle.pw_graph.specs.declared.kind.Kind.TheVariants.{Sink, Meter}
 use Rattle.pw_graph.specs.declared.plan.Plan.{Plan}
 use Rattle.pw_graph.specs.declared.plan.PlanNode.{PlanNode}
-use Rattle.pw_graph.specs.Samples.{peak_of}
+use Rattle.pw_lists.specs.Samples.{peak_of}
 use Rattle.pw_graph.specs.KindPorts.{input_count}
 use Rattle.pw_graph.specs.PlanSums.{is_sink}
 use Rattle.pw_graph.specs.PlanForms.{kind_at}

@@ -7,7 +7,7 @@ use Rattle.std.proofs.lemmas.List.{length-replicate, get_or_append_left, get_or-
 use Rattle.std.proofs.lemmas.List.Elements.{All-head, All-tail}
 use Rattle.std.proofs.lemmas.List.FromFn.{fill_by_all, length-map-range_with_len, get_or-map-range_with_len}
 use Rattle.std.proofs.lemmas.Bool.{cases_lt}
-use Rattle.pw_graph.specs.Samples.{silence, summed}
+use Rattle.pw_lists.specs.Samples.{silence, summed}
 
 -- a wave, then silence
 padded_at : (w : List ℤ) (n k : ℕ) → k < n → get_or (w ++ replicate n (pos 0)) k (pos 0) ≡ get_or w k (pos 0)

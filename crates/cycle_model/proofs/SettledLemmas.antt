@@ -9,7 +9,7 @@ use Rattle.pw_graph.specs.declared.ids.PortId.{PortId}
 use Rattle.pw_graph.specs.declared.shape.ShapeLink.{ShapeLink}
 use Rattle.pw_graph.specs.declared.plan.Epoch.{Epoch}
 use Rattle.pw_graph.specs.declared.plan.Plan.{Plan}
-use Rattle.pw_graph.specs.Samples.{clamped, silence, summed}
+use Rattle.pw_lists.specs.Samples.{clamped, silence, summed}
 use Rattle.pw_graph.specs.KindFunction.{kind_output}
 use Rattle.pw_graph.specs.KindPorts.{input_count}
 use Rattle.wav_files.specs.declared.wav.WavIn.{WavIn}

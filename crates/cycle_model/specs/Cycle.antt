@@ -6,7 +6,7 @@ use Rattle.std.specs.Prelude.{ℤ, if◌then◌else◌}
 use Rattle.pw_graph.specs.declared.ids.PortId.{PortId}
 use Rattle.pw_graph.specs.declared.shape.ShapeLink.{ShapeLink}
 use Rattle.pw_graph.specs.declared.plan.Plan.{Plan}
-use Rattle.pw_graph.specs.Samples.{clamped, silence, summed}
+use Rattle.pw_lists.specs.Samples.{clamped, silence, summed}
 use Rattle.pw_graph.specs.KindFunction.{KindInputs, kind_output}
 use Rattle.pw_graph.specs.KindPorts.{input_count}
 pub use Rattle.pw_graph.specs.PlanForms.{kind_at}

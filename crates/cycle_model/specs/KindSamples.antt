@@ -4,7 +4,7 @@
 use Rattle.std.specs.Prelude.{ℕ, ◌-◌, ◌*◌, ◌/◌, ◌%◌, min, List, length, ℤ, pos, nat_lt, slice_index, slice_index_or, if◌then◌else◌}
 use Rattle.pw_graph.specs.declared.kind.Kind.{Kind}
 use Rattle.pw_graph.specs.declared.kind.Kind.TheVariants.{Source, Square, Gain, Mix2, Delay, Map, Split, Sink, Meter, Dummy}
-use Rattle.pw_graph.specs.Samples.{scaled, mixed, sample_at}
+use Rattle.pw_lists.specs.Samples.{scaled, mixed, sample_at}
 use Rattle.pw_graph.specs.KindFunction.{KindInputs, square_at}
 use Rattle.cycle_model.specs.declared.received.Received.{Received}
 

@@ -11,7 +11,7 @@ use Rattle.pw_graph.specs.declared.kind.Kind.TheVariants.{Source, Sink}
 use Rattle.pw_graph.specs.declared.shape.ShapeLink.{ShapeLink}
 use Rattle.pw_graph.specs.declared.plan.Epoch.{Epoch}
 use Rattle.pw_graph.specs.declared.plan.Plan.{Plan}
-use Rattle.pw_graph.specs.Samples.{clamped}
+use Rattle.pw_lists.specs.Samples.{clamped}
 use Rattle.wav_files.specs.declared.wav.WavIn.{WavIn}
 use Rattle.pw_graph.specs.Pools.{is_same_port}
 use Rattle.cycle_model.specs.Epochs.{channels_of}

@@ -1,7 +1,7 @@
 -- A plan that can be rendered: what the recursion of the cycle function needs. Source: this
 -- project's own.
 use Rattle.std.specs.Prelude.{◌≡◌, ◌<◌, ◌≤◌, ◌⊎◌, List, All, Contains, map, length}
-use Rattle.pw_graph.specs.Limits.{nodes_limit, dummy_node}
+use Rattle.pw_lists.specs.Limits.{nodes_limit, dummy_node}
 use Rattle.pw_graph.specs.declared.shape.ShapeLink.{ShapeLink}
 use Rattle.pw_graph.specs.declared.shape.ShapeNode.{ShapeNode}
 use Rattle.pw_graph.specs.declared.plan.Epoch.{Epoch}

@@ -6,7 +6,7 @@ use Rattle.pw_graph.specs.declared.kind.Kind.{Kind}
 use Rattle.pw_graph.specs.declared.kind.Kind.TheVariants.{Meter}
 use Rattle.pw_graph.specs.declared.plan.Plan.{Plan}
 use Rattle.pw_graph.specs.declared.plan.PlanNode.{PlanNode}
-use Rattle.pw_graph.specs.Samples.{peak_of}
+use Rattle.pw_lists.specs.Samples.{peak_of}
 use Rattle.pw_graph.specs.PlanSums.{is_sink}
 use Rattle.wav_files.specs.declared.wav.WavIn.{WavIn}
 use Rattle.wav_files.specs.declared.outcome.Kept.{Kept}

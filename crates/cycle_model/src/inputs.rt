@@ -1,6 +1,6 @@
 //! The input of a port in a cycle: what its links bring, added and then clamped once.
 ghost use Rattle.std.specs.Prelude.{◌≡◌, ℕ, ◌*◌, ◌<◌, ◌^◌, List, [], length, map, pos, min, IfOk, OnOk};
-ghost use Rattle.pw_graph.specs.Samples.{clamped, silence, summed};
+ghost use Rattle.pw_lists.specs.Samples.{clamped, silence, summed};
 ghost use Rattle.cycle_model.specs.working.Known.{given_at, brought_by, input_by};
 
 use crate::epochs::channels_of;

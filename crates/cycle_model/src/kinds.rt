@@ -3,7 +3,7 @@ ghost use Rattle.std.specs.Prelude.{◌≡◌, ℕ, ◌+◌, ◌-◌, ◌<◌, �
 ghost use Rattle.std.specs.Prelude.{unsigned_abs, nat_lt, if◌then◌else◌, slice_index_or, IfSome, IfOk};
 ghost use Rattle.std.specs.Int.{int_shr};
 ghost use Rattle.std.specs.List.{range_with_len};
-ghost use Rattle.pw_graph.specs.Samples.{clamped, scaled, mixed, sample_at};
+ghost use Rattle.pw_lists.specs.Samples.{clamped, scaled, mixed, sample_at};
 ghost use Rattle.pw_graph.specs.KindFunction.{kind_output, square_at};
 ghost use Rattle.pw_graph.specs.KindRanges.{IsInRange};
 ghost use Rattle.cycle_model.specs.Cycle.{last_of};

@@ -1,6 +1,6 @@
 //! The reference program: a plan and its waves rendered in one thread, by index into whole streams.
 ghost use Rattle.std.specs.Prelude.{◌≡◌, [], ◌++◌, All, length, option_to_list, OnOk, IfOk};
-ghost use Rattle.pw_graph.specs.Samples.{peak_of};
+ghost use Rattle.pw_lists.specs.Samples.{peak_of};
 ghost use Rattle.pw_graph.specs.SoundPlan.{IsSoundPlan};
 ghost use Rattle.wav_files.specs.WavWriting.{IsWave};
 ghost use Rattle.cycle_model.specs.working.Known.{kept_by, peak_by};

@@ -1,6 +1,6 @@
 //! Whether waves fit a plan.
 ghost use Rattle.std.specs.Prelude.{◌≡◌, ℕ, ◌≤◌, ◌==◌, ◌↔◌, IsTrue, All, length, count_by};
-ghost use Rattle.pw_graph.specs.Limits.{nodes_limit};
+ghost use Rattle.pw_lists.specs.Limits.{nodes_limit};
 ghost use Rattle.pw_graph.specs.declared.kind.Kind.TheVariants.{Source};
 ghost use Rattle.pw_graph.specs.PlanForms.{kind_at};
 ghost use Rattle.cycle_model.specs.WavesFit.{IsFormOf, IsWaveOfSource, WavesFit};

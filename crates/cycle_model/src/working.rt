@@ -1,6 +1,6 @@
 //! One cycle of one node: it receives its inputs, and then gives its outputs.
 ghost use Rattle.std.specs.Prelude.{◌≡◌, ℕ, ◌<◌, ◌≤◌, ◌++◌, length, slice_index_or, slice_set, OnOk, IfOk, if◌then◌else◌};
-ghost use Rattle.pw_graph.specs.Limits.{nodes_limit};
+ghost use Rattle.pw_lists.specs.Limits.{nodes_limit};
 ghost use Rattle.pw_graph.specs.KindPorts.{input_count, output_count};
 ghost use Rattle.pw_graph.specs.KindRanges.{IsInRange};
 ghost use Rattle.cycle_model.specs.Cycle.{wave_of};

@@ -1,7 +1,7 @@
 -- Reading a trace: which events its lines are the lines of, and its first line that is of no event.
 -- Source: the form is this project's own.
 use Rattle.std.specs.Prelude.{Bool, false, ◌≡◌, ◌≢◌, ℕ, ◌-◌, ◌^◌, ◌<◌, ◌≤◌, ◌==◌, if◌then◌else◌, List, [], ◌∷◌}
-use Rattle.pw_graph.specs.Limits.{nodes_limit}
+use Rattle.pw_lists.specs.Limits.{nodes_limit}
 use Rattle.std.specs.Prelude.{◌++◌, length, take, All, AllPairs, codes, slice_index_or}
 use Rattle.std.specs.List.{slice_split, AllZip}
 use Rattle.pw_graph.specs.declared.event.Event.{Event}

@@ -1,6 +1,6 @@
 //! The events that the lines of a trace name.
 ghost use Rattle.std.specs.Prelude.{◌≡◌, ℕ, ◌<◌, ◌≤◌, ◌/◌, ◌%◌, ◌^◌, ◌↔◌, List, [], ◌∷◌, ◌++◌, length, decimal};
-ghost use Rattle.pw_graph.specs.Limits.{nodes_limit};
+ghost use Rattle.pw_lists.specs.Limits.{nodes_limit};
 ghost use Rattle.std.specs.Prelude.{Some, IsTrue, IfOk, IfErr, IfSome, MatchOption};
 ghost use Rattle.std.specs.List.{AllZip, slice_split};
 ghost use Rattle.pw_graph.specs.declared.event.Event.{Event};

@@ -13,7 +13,7 @@ use Rattle.pw_graph.specs.declared.pools.PoolShape.{PoolShape}
 use Rattle.pw_graph.specs.declared.plan.Epoch.{Epoch}
 use Rattle.pw_graph.specs.declared.plan.Plan.{Plan}
 use Rattle.pw_graph.specs.Pools.{pools_of, is_same_port}
-use Rattle.pw_graph.specs.Samples.{clamped, silence, summed}
+use Rattle.pw_lists.specs.Samples.{clamped, silence, summed}
 use Rattle.pw_graph.specs.KindPorts.{input_count}
 use Rattle.pw_graph.specs.PlanForms.{kind_at}
 use Rattle.wav_files.specs.declared.wav.WavIn.{WavIn}

@@ -1,7 +1,7 @@
 -- When a follower may play, by the cycle function.
 use Rattle.std.specs.Prelude.{◌≡◌, ℕ, ℤ, ◌+◌, ◌<◌, ◌≤◌, ◌⊎◌, List, Contains, length}
 use Rattle.pw_graph.specs.KindPorts.{input_count}
-use Rattle.pw_graph.specs.Limits.{links_limit}
+use Rattle.pw_lists.specs.Limits.{links_limit}
 use Rattle.pw_graph.specs.PlanForms.{kind_at}
 use Rattle.node_state.specs.declared.node_state.NodeState.{NodeState}
 use Rattle.board_rule.specs.declared.view.View.{View}

@@ -3,7 +3,7 @@ use Rattle.std.proofs.Common.{◌≡◌, ℕ, ℤ, ◌≤◌, List, length, take
 use Rattle.std.proofs.lemmas.List.{length-take-le}
 use Rattle.std.proofs.Math.Seq.{take-append_seam}
 use Rattle.pw_graph.specs.declared.shape.Shape.{Shape}
-use Rattle.pw_graph.specs.Limits.{links_limit}
+use Rattle.pw_lists.specs.Limits.{links_limit}
 use Rattle.board_rule.specs.declared.view.View.{View}
 use Rattle.board_rule.specs.Layout.{BoardLayout}
 use Rattle.io_areas.specs.PooledBoard.{IsPooledBoard}

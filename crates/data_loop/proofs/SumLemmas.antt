@@ -6,7 +6,7 @@ use Rattle.std.proofs.lemmas.Int.{ints}
 use Rattle.std.proofs.lemmas.List.{map-append}
 use Rattle.std.proofs.lemmas.List.Elements.{All-cons, All-nil, filter-append}
 use Rattle.std.proofs.lemmas.Bool.{cond-true, cond-false}
-use Rattle.pw_graph.specs.Samples.{summed}
+use Rattle.pw_lists.specs.Samples.{summed}
 use Rattle.s16_mixer.specs.Ranges.{HasRoom, IsWithin}
 use Rattle.board_rule.specs.declared.view.View.{View}
 use Rattle.board_rule.specs.declared.view.ReadView.{ReadView}

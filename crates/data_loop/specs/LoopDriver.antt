@@ -2,7 +2,7 @@
 -- Source: PipeWire's documentation, "Graph Scheduling": one node drives a graph; which loop has it
 -- is this project's own.
 use Rattle.std.specs.Prelude.{◌≡◌, ◌≢◌, ◌⊎◌, ◌+◌, [], Contains}
-use Rattle.pw_graph.specs.Limits.{dummy_node}
+use Rattle.pw_lists.specs.Limits.{dummy_node}
 use Rattle.cycle_model.specs.Expected.{expected_samples}
 use Rattle.board_rule.specs.declared.view.View.{View}
 use Rattle.board_rule.specs.Layout.{BoardLayout, first}

@@ -2,7 +2,7 @@
 -- Source: this project's own: sinks keep the streams that they receive, meters their peaks.
 use Rattle.std.specs.Prelude.{◌≡◌, ◌≢◌, ℕ, ℤ, ◌<◌, List, length, slice_index_or}
 use Rattle.pw_graph.specs.KindFunction.{KindInputs}
-use Rattle.pw_graph.specs.Samples.{peak_of}
+use Rattle.pw_lists.specs.Samples.{peak_of}
 use Rattle.cycle_model.specs.Rendering.{end_stream}
 use Rattle.node_state.specs.declared.node_state.NodeState.{NodeState}
 use Rattle.node_state.specs.StandsFor.{StandsFor, node_kind, kept_stream}

@@ -1,6 +1,6 @@
 //! The inputs of a node, as the cycle function has them.
 ghost use Rattle.std.specs.Prelude.{◌≡◌, ◌≤◌, length, take};
-ghost use Rattle.pw_graph.specs.Limits.{links_limit};
+ghost use Rattle.pw_lists.specs.Limits.{links_limit};
 ghost use Rattle.board_rule.specs.OnBoard.{IsOn, layout};
 ghost use Rattle.io_areas.specs.PooledBoard.{IsPooledBoard};
 ghost use Rattle.data_loop.specs.working.ReadingInputs.{MayReadAll, AreRead};

@@ -1,7 +1,7 @@
 //! The links into a node that works, read and added up.
 ghost use Rattle.std.specs.Prelude.{◌≡◌, ◌≤◌, All, length, fold};
-ghost use Rattle.pw_graph.specs.Limits.{links_limit};
-ghost use Rattle.pw_graph.specs.Samples.{summed};
+ghost use Rattle.pw_lists.specs.Limits.{links_limit};
+ghost use Rattle.pw_lists.specs.Samples.{summed};
 ghost use Rattle.board_rule.specs.OnBoard.{IsOn, layout};
 ghost use Rattle.data_loop.specs.working.ReadingInputs.{MayReadAll, AreRead};
 ghost use Rattle.data_loop.specs.working.Inputs.{IsZero, IsWide, links_of, first_rows, second_rows, AreLong};

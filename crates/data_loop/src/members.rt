@@ -1,7 +1,7 @@
 //! How the members of a loop in an epoch are made.
 ghost use Rattle.std.specs.Prelude.{◌≡◌, ◌≤◌, IfOk, length};
 ghost use Rattle.std.specs.List.{list_any};
-ghost use Rattle.pw_graph.specs.Limits.{nodes_limit, links_limit};
+ghost use Rattle.pw_lists.specs.Limits.{nodes_limit, links_limit};
 ghost use Rattle.pw_graph.specs.KindPorts.{input_count};
 ghost use Rattle.pw_graph.specs.PlanForms.{kind_at};
 ghost use Rattle.pw_graph.specs.Pools.{pools_of, is_same_port};

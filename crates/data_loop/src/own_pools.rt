@@ -1,6 +1,6 @@
 //! The pools that the nodes of a loop fill in an epoch.
 ghost use Rattle.std.specs.Prelude.{◌≡◌, ◌≤◌, if◌then◌else◌, All, IfOk, length, map};
-ghost use Rattle.pw_graph.specs.Limits.{links_limit, buffers_limit};
+ghost use Rattle.pw_lists.specs.Limits.{links_limit, buffers_limit};
 ghost use Rattle.io_areas.specs.FreeBlocks.{free_at_start};
 ghost use Rattle.data_loop.specs.OwnPools.{is_among, own_pools, own_places, AreFirstPools};
 

@@ -1,6 +1,6 @@
 //! What a loop has in each epoch, made before the first one begins.
 ghost use Rattle.std.specs.Prelude.{◌≡◌, ◌<◌, ◌≤◌, ◌^◌, IfOk, length, map};
-ghost use Rattle.pw_graph.specs.Limits.{nodes_limit};
+ghost use Rattle.pw_lists.specs.Limits.{nodes_limit};
 ghost use Rattle.pw_graph.specs.SoundPlan.{IsSoundPlan};
 ghost use Rattle.node_progress.specs.Restarts.{restart_of};
 ghost use Rattle.data_loop.specs.StageParts.{IsFirstStage, AreFirstStages};

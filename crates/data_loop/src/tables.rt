@@ -3,7 +3,7 @@
 //! A vector that is filled anew in each turn is no `Items`, and an `Items` that grows may ask for
 //! memory: so of each length there is one list, made before.
 ghost use Rattle.std.specs.Prelude.{◌≡◌, ◌+◌, ◌<◌, ◌≤◌, [], IfOk, length, slice_index_or, vec_capacity};
-ghost use Rattle.pw_graph.specs.Limits.{nodes_limit};
+ghost use Rattle.pw_lists.specs.Limits.{nodes_limit};
 ghost use Rattle.data_loop.specs.Tables.{AreTables};
 
 use pw_lists::{Items, Memory};

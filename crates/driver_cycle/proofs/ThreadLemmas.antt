@@ -3,7 +3,7 @@ use Rattle.std.proofs.Common.{◌≡◌, ℕ, ◌+◌, ◌||◌, Bool, true, fal
 use Rattle.std.proofs.Common.{Option, Some, None}
 use Rattle.std.specs.Prelude.{All, Contains, ◌⊎◌}
 use Rattle.atomic_table.specs.Seated.{TableId}
-use Rattle.pw_graph.specs.Limits.{dummy_node}
+use Rattle.pw_lists.specs.Limits.{dummy_node}
 use Rattle.std.proofs.lemmas.Option.{same_Some}
 use Rattle.cycle_model.specs.Expected.{epoch_rows}
 use Rattle.board_rule.specs.declared.board.Board.{Board}

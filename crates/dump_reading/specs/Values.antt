@@ -2,7 +2,7 @@
 -- level deeper under it. The lines are those of the dump. Source: this project's own.
 use Rattle.std.specs.Prelude.{ℕ, zero, suc, ◌+◌, ◌==◌, ◌&&◌, ◌||◌, nat_lt, Bool, if◌then◌else◌, List, [], length}
 use Rattle.std.specs.Prelude.{Option, Some, None, option_map}
-use Rattle.pw_graph.specs.Limits.{depth_limit}
+use Rattle.pw_lists.specs.Limits.{depth_limit}
 use Rattle.pod_codec.specs.declared.pod.Pod.{Pod}
 use Rattle.pod_codec.specs.declared.pod.Pod.TheVariants as P
 use Rattle.pod_codec.specs.PodType.{child_size}

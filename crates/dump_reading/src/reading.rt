@@ -1,6 +1,6 @@
 //! A whole text read back.
 ghost use Rattle.std.specs.Prelude.{◌≡◌, IfOk};
-ghost use Rattle.pw_graph.specs.Limits.{depth_limit};
+ghost use Rattle.pw_lists.specs.Limits.{depth_limit};
 ghost use Rattle.pod_codec.specs.declared.pod.Pod.{Pod};
 ghost use Rattle.pod_codec.specs.DumpText.{dump_text_of};
 ghost use Rattle.dump_reading.specs.Answers.{IsAnswer, IsReadBack, IsToldAs};

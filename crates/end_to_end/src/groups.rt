@@ -1,6 +1,6 @@
 //! Scripts whose parts have drivers of their own.
 
-use pw_graph::Which;
+use pw_lists::Which;
 use pw_top::Status;
 use row_files::{Held, RUN, Row, first_unlike};
 

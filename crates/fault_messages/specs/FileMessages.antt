@@ -1,8 +1,8 @@
 -- What is wrong with a file, in words. Source: WAV faults are those of RIFF WAVE PCM; the
 -- sentences and the limits are this project's own.
 use Rattle.std.specs.Prelude.{ℕ, Bool, true, false, if◌then◌else◌, List, ◌++◌, codes, Option}
-use Rattle.pw_graph.specs.declared.limit.Which.{Which}
-use Rattle.pw_graph.specs.declared.limit.Which.TheVariants as W
+use Rattle.pw_lists.specs.declared.limit.Which.{Which}
+use Rattle.pw_lists.specs.declared.limit.Which.TheVariants as W
 use Rattle.wav_files.specs.declared.fault.WavFault.{WavFault}
 use Rattle.wav_files.specs.declared.fault.WavFault.TheVariants as F
 use Rattle.fault_messages.specs.Places.{file_part}

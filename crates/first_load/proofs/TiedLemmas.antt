@@ -7,7 +7,7 @@ use Rattle.pw_outside.specs.declared.files.Loaded.{Loaded}
 use Rattle.pw_outside.specs.declared.files.Loaded.TheVariants.{Whole, Absent, TooLong}
 use Rattle.pw_outside.specs.declared.files.FileFail.{FileFail}
 use Rattle.pw_outside.specs.Files.{Held, names_in, IsLoaded}
-use Rattle.pw_graph.specs.Limits.{script_bytes_limit}
+use Rattle.pw_lists.specs.Limits.{script_bytes_limit}
 use Rattle.first_load.specs.declared.first.First.{First}
 use Rattle.first_load.specs.declared.first.First.TheVariants.{Awaited, Kept, Gone}
 use Rattle.first_load.specs.FirstLoad.{first_of, IsTied, IsKept}

@@ -4,9 +4,8 @@ ghost use Rattle.pw_graph.specs.KindRanges.{IsRate, IsChannels, IsGain, IsInRang
 ghost use Rattle.pw_graph.specs.KindRanges.{IsSinkOrMeter};
 
 use crate::soundness::is_between;
-use pw_graph::{
-    AMP_LIMIT, CHANNELS_LIMIT, DELAY_LIMIT, GAIN_LIMIT, Kind, PERIOD_LIMIT, RATE_LIMIT,
-};
+use pw_graph::Kind;
+use pw_lists::{AMP_LIMIT, CHANNELS_LIMIT, DELAY_LIMIT, GAIN_LIMIT, PERIOD_LIMIT, RATE_LIMIT};
 
 /// Whether it is a rate.
 pub(crate) fn is_rate(rate: u32) -> bool

@@ -1,14 +1,13 @@
 //! Whether the sums of a plan are within their limits.
 ghost use Rattle.std.specs.Prelude.{◌≡◌, ◌≤◌, ◌*◌, ◌+◌, filter, sum_by, IsTrue, ◌↔◌};
-ghost use Rattle.pw_graph.specs.Limits.{events_limit, sink_samples_limit, block_bytes_limit};
+ghost use Rattle.pw_lists.specs.Limits.{events_limit, sink_samples_limit, block_bytes_limit};
 ghost use Rattle.pw_graph.specs.PlanForms.{kind_at};
 ghost use Rattle.pw_graph.specs.PlanSums.{is_sink, epoch_events, form_samples, epoch_samples, link_bytes, epoch_bytes, events_of};
 ghost use Rattle.pw_graph.specs.PlanSums.{sink_samples_of, block_bytes_of, capped};
 
 use crate::plan_forms::is_sink_at;
-use pw_graph::{
-    BLOCK_BYTES_LIMIT, EVENTS_LIMIT, Epoch, Plan, PortForm, SINK_SAMPLES_LIMIT, ShapeLink, asked,
-};
+use pw_graph::{Epoch, Plan, PortForm, ShapeLink, asked};
+use pw_lists::{BLOCK_BYTES_LIMIT, EVENTS_LIMIT, SINK_SAMPLES_LIMIT};
 
 // The sum of two numbers, or the greatest number.
 #[tactic(auto, unfolding(crate::specs::PlanSums::capped))]

@@ -7,10 +7,8 @@ ghost use Rattle.pw_graph.specs.Dependencies.{nodes_of};
 
 use crate::dependencies::{has_node, is_counted};
 use crate::link_order::has_order;
-use pw_graph::{
-    BUFFERS_LIMIT, CHANNELS_LIMIT, DUMMY, EVENTS_LIMIT, LINKS_LIMIT, QUANTUM_LIMIT, Shape,
-    ShapeLink, ShapeNode,
-};
+use pw_graph::{DUMMY, Shape, ShapeLink, ShapeNode};
+use pw_lists::{BUFFERS_LIMIT, CHANNELS_LIMIT, EVENTS_LIMIT, LINKS_LIMIT, QUANTUM_LIMIT};
 
 /// Whether a number is within both ends.
 pub(crate) fn is_between(low: u32, high: u32, n: u32) -> bool

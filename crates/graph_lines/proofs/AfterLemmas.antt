@@ -3,8 +3,8 @@ use Rattle.std.proofs.Common.{◌≡◌, ◌⊎◌, inl, inr, ℕ, zero, suc, �
 use Rattle.std.specs.Prelude.{if◌then◌else◌, Result, Ok, Err, IfOk}
 use Rattle.std.proofs.lemmas.Bool.{cases_lt}
 use Rattle.std.proofs.lemmas.List.{get_or_past, get_or_append_left, get_or_push}
-use Rattle.pw_graph.specs.declared.limit.Which.{Which}
-use Rattle.pw_graph.specs.declared.limit.Which.TheVariants as W
+use Rattle.pw_lists.specs.declared.limit.Which.{Which}
+use Rattle.pw_lists.specs.declared.limit.Which.TheVariants as W
 use Rattle.pw_graph.specs.declared.plan.Epoch.{Epoch}
 use Rattle.pw_graph.specs.PlanSums.{epoch_events}
 use Rattle.pw_lists.specs.declared.memory.Memory.{Memory}

@@ -2,7 +2,7 @@
 -- Source: PipeWire's documentation, "Graph Scheduling" (driver, followers); priorities and the
 -- built-in driver 63 are this project's.
 use Rattle.std.specs.Prelude.{◌≡◌, ◌⊎◌, ℕ, ◌<◌, ◌≤◌, ◌&&◌, Bool, true, false, List, [], ◌∷◌, Option, Some, None}
-use Rattle.pw_graph.specs.Limits.{dummy_node}
+use Rattle.pw_lists.specs.Limits.{dummy_node}
 use Rattle.std.specs.Prelude.{Contains, filter, slice_index_or, if◌then◌else◌}
 use Rattle.pw_graph.specs.declared.kind.Kind.{Kind}
 use Rattle.pw_graph.specs.declared.kind.Kind.TheVariants.{Sink, Meter, Dummy}

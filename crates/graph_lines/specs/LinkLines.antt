@@ -2,7 +2,7 @@
 -- Source: PipeWire's documentation, "Objects Design", Link; the limit of links is this project's.
 use Rattle.std.specs.Prelude.{◌≡◌, ℕ, [], ◌∷◌, ◌++◌}
 use Rattle.pw_graph.specs.declared.ids.PortId.{PortId}
-use Rattle.pw_graph.specs.declared.limit.Which.TheVariants as W
+use Rattle.pw_lists.specs.declared.limit.Which.TheVariants as W
 use Rattle.pw_graph.specs.declared.plan.LineOutcome.{LineOutcome}
 use Rattle.pw_graph.specs.declared.plan.LineOutcome.TheVariants as O
 use Rattle.port_model.specs.PortState.{AtPort}

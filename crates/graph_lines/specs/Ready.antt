@@ -3,7 +3,7 @@
 use Rattle.std.specs.Prelude.{◌≡◌, ℕ, ◌*◌, ◌≤◌, List, map, length, All, IsSome}
 use Rattle.pw_graph.specs.declared.ids.PortId.{PortId}
 use Rattle.pw_graph.specs.declared.kind.Kind.{Kind}
-use Rattle.pw_graph.specs.Limits.{quantum_limit, buffers_limit, events_limit}
+use Rattle.pw_lists.specs.Limits.{quantum_limit, buffers_limit, events_limit}
 use Rattle.pw_graph.specs.SoundShape.{IsBetween}
 use Rattle.port_model.specs.declared.port_state.Node.{Node}
 use Rattle.port_model.specs.PortState.{IsInput, IsOutput, AtPort}

@@ -3,7 +3,7 @@
 use Rattle.std.specs.Prelude.{◌≡◌, ℕ, true, false, List, [], ◌∷◌, map, length, replicate, None}
 use Rattle.std.specs.List.{range_with_len}
 use Rattle.pw_graph.specs.declared.kind.Kind.{Kind}
-use Rattle.pw_graph.specs.Limits.{quantum_limit}
+use Rattle.pw_lists.specs.Limits.{quantum_limit}
 use Rattle.pw_graph.specs.SoundShape.{IsBetween}
 use Rattle.graph_script.specs.declared.command.Command.{Command}
 use Rattle.graph_script.specs.declared.command.Command.TheVariants as C

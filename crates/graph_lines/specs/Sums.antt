@@ -4,12 +4,12 @@ use Rattle.std.specs.Prelude.{◌≡◌, ℕ, ◌+◌, ◌*◌, Bool, List, filt
 use Rattle.std.specs.Prelude.{slice_index_or, if◌then◌else◌}
 use Rattle.pw_graph.specs.declared.kind.Kind.{Kind}
 use Rattle.pw_graph.specs.declared.kind.Kind.TheVariants.{Dummy}
-use Rattle.pw_graph.specs.declared.limit.Which.{Which}
-use Rattle.pw_graph.specs.declared.limit.Which.TheVariants as W
+use Rattle.pw_lists.specs.declared.limit.Which.{Which}
+use Rattle.pw_lists.specs.declared.limit.Which.TheVariants as W
 use Rattle.pw_graph.specs.declared.plan.Epoch.{Epoch}
 use Rattle.pw_graph.specs.declared.plan.PortForm.{PortForm}
 use Rattle.pw_graph.specs.declared.shape.ShapeLink.{ShapeLink}
-use Rattle.pw_graph.specs.Limits.{events_limit, sink_samples_limit, block_bytes_limit}
+use Rattle.pw_lists.specs.Limits.{events_limit, sink_samples_limit, block_bytes_limit}
 use Rattle.pw_graph.specs.PlanSums.{is_sink, epoch_events, capped}
 use Rattle.pw_graph.specs.Pools.{asked}
 use Rattle.graph_lines.specs.declared.limits.Sums.{Sums}

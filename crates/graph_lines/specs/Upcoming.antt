@@ -2,7 +2,7 @@
 -- Source: this project's script grammar.
 use Rattle.std.specs.Prelude.{◌≡◌, ℕ, zero, suc, ◌+◌, List, Option, Some, None}
 use Rattle.pw_graph.specs.declared.plan.Epoch.{Epoch}
-use Rattle.pw_graph.specs.Limits.{events_limit}
+use Rattle.pw_lists.specs.Limits.{events_limit}
 use Rattle.wav_files.specs.declared.wav.WavIn.{WavIn}
 use Rattle.graph_script.specs.declared.command.Command.{Command}
 use Rattle.graph_script.specs.declared.command.Command.TheVariants as C

@@ -1,6 +1,6 @@
 //! What a line does, but for those that make epochs.
 ghost use Rattle.std.specs.Prelude.{◌≡◌, ◌<◌, ◌≤◌, ◌==◌, ◌||◌, length, map, IfOk, slice_set};
-ghost use Rattle.pw_graph.specs.Limits.{nodes_limit, buffers_limit};
+ghost use Rattle.pw_lists.specs.Limits.{nodes_limit, buffers_limit};
 ghost use Rattle.std.specs.List.{list_any};
 ghost use Rattle.pw_graph.specs.SoundShape.{IsBetween};
 ghost use Rattle.port_model.specs.PortState.{IsPort, with_port, buffered};

@@ -1,6 +1,6 @@
 //! The graph as the lines so far have made it.
 ghost use Rattle.std.specs.Prelude.{◌≡◌, ◌<◌, ◌≤◌, ◌++◌, ◌∷◌, [], length, OnOk};
-ghost use Rattle.pw_graph.specs.Limits.{nodes_limit};
+ghost use Rattle.pw_lists.specs.Limits.{nodes_limit};
 ghost use Rattle.graph_lines.specs.Activity.{standing};
 ghost use Rattle.graph_lines.specs.Ready.{HasReadyNodes};
 
@@ -9,7 +9,8 @@ use crate::standing::Standing;
 use crate::wire::Wire;
 use link_negotiation::Links;
 use port_model::Ports;
-use pw_graph::{Epoch, Kind, LineOutcome, LinkLine, PortId, Which};
+use pw_graph::{Epoch, Kind, LineOutcome, LinkLine, PortId};
+use pw_lists::Which;
 use pw_lists::{Items, Memory};
 use std::alloc::Global;
 

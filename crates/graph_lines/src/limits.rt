@@ -6,7 +6,8 @@ ghost use Rattle.pw_graph.specs.PlanSums.{capped, epoch_events};
 ghost use Rattle.graph_lines.specs.Sums.{form_samples, is_sink_form, sink_samples, link_bytes, block_bytes};
 ghost use Rattle.graph_lines.specs.Sums.{sums_with, capped_sums, passed, IsJudged};
 
-use pw_graph::{BLOCK_BYTES_LIMIT, EVENTS_LIMIT, Epoch, Kind, PortForm, SINK_SAMPLES_LIMIT, ShapeLink, Which, is_sink};
+use pw_graph::{Epoch, Kind, PortForm, ShapeLink, is_sink};
+use pw_lists::{BLOCK_BYTES_LIMIT, EVENTS_LIMIT, SINK_SAMPLES_LIMIT, Which};
 
 /// What the epochs so far add up to.
 #[derive(Clone, Copy, Debug, Drop)]

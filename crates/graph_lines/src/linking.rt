@@ -10,7 +10,8 @@ use crate::graph::{Graph, Stepped, note};
 use crate::wire::Wire;
 use link_negotiation::Linked;
 use port_model::Ports;
-use pw_graph::{LineOutcome, PortId, Which};
+use pw_graph::{LineOutcome, PortId};
+use pw_lists::Which;
 use pw_lists::Memory;
 
 // The form of a port that has its format.

@@ -1,6 +1,6 @@
 //! `unlink` lines.
 ghost use Rattle.std.specs.Prelude.{◌≡◌, ◌≢◌, ℕ, ◌<◌, ◌≤◌, length, IfOk};
-ghost use Rattle.pw_graph.specs.Limits.{nodes_limit};
+ghost use Rattle.pw_lists.specs.Limits.{nodes_limit};
 ghost use Rattle.std.specs.Int.{bit_at};
 ghost use Rattle.port_model.specs.PortState.{IsInput, IsOutput};
 ghost use Rattle.graph_lines.specs.Activity.{standing};

@@ -1,7 +1,7 @@
 -- The answer to a command line: the picture that it asks for, or why it is refused.
 -- Source: this project's own.
 use Rattle.std.specs.Prelude.{◌≡◌, ◌⊎◌, ℕ, List, [], Option, Some, Result, Ok, Err}
-use Rattle.pw_graph.specs.declared.limit.Which.TheVariants as W
+use Rattle.pw_lists.specs.declared.limit.Which.TheVariants as W
 use Rattle.pw_outside.specs.Files.{Names}
 use Rattle.pw_outside.specs.Causes.{Rose}
 use Rattle.pw_outside.specs.Output.{Given, Gave, GavePart}

@@ -2,9 +2,9 @@
 -- Where a load failed or memory was short, nothing is said of the files.
 -- Source: this project's own.
 use Rattle.std.specs.Prelude.{◌≡◌, ℕ, ◌-◌, ◌<◌, ◌^◌, List, length, Option, Some, None, Result, Ok, Err}
-use Rattle.pw_graph.specs.declared.limit.Which.{Which}
-use Rattle.pw_graph.specs.declared.limit.Which.TheVariants as W
-use Rattle.pw_graph.specs.Limits.{script_bytes_limit}
+use Rattle.pw_lists.specs.declared.limit.Which.{Which}
+use Rattle.pw_lists.specs.declared.limit.Which.TheVariants as W
+use Rattle.pw_lists.specs.Limits.{script_bytes_limit}
 use Rattle.graph_script.specs.declared.script.Script.{Script}
 use Rattle.graph_script.specs.declared.fault.ScriptFault.TheVariants as F
 use Rattle.graph_script.specs.Grammar.{script_of}

@@ -2,8 +2,8 @@
 -- status. They are printed on standard error.
 -- Source: this project's own; the faults of a WAV file are those of RIFF WAVE PCM.
 use Rattle.std.specs.Prelude.{ℕ, ◌==◌, ◌||◌, nat_lt, if◌then◌else◌, List, [], ◌∷◌, ◌++◌, map, codes, slice_index_or}
-use Rattle.pw_graph.specs.declared.limit.Which.{Which}
-use Rattle.pw_graph.specs.declared.limit.Which.TheVariants as W
+use Rattle.pw_lists.specs.declared.limit.Which.{Which}
+use Rattle.pw_lists.specs.declared.limit.Which.TheVariants as W
 use Rattle.wav_files.specs.declared.fault.WavFault.{WavFault}
 use Rattle.wav_files.specs.declared.fault.WavFault.TheVariants as F
 use Rattle.graph_pictures.specs.declared.status.Status.{Status}

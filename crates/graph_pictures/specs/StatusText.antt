@@ -1,6 +1,6 @@
 -- The number and the line of a status: those of `pipegraph`. The form is this project's own.
 use Rattle.std.specs.Prelude.{ℕ, List, [], ◌∷◌, codes}
-use Rattle.pw_graph.specs.Quantities.{which_number}
+use Rattle.pw_lists.specs.Quantities.{which_number}
 use Rattle.graph_script.specs.declared.fault.ScriptWhy.{ScriptWhy}
 use Rattle.graph_script.specs.declared.fault.ScriptWhy.TheVariants.{TooMany}
 use Rattle.graph_script.specs.Faults.{why_number}

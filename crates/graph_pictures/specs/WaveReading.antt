@@ -2,8 +2,8 @@
 -- failed or memory was short, nothing is said of the file.
 -- Source: RIFF WAVE, PCM of 16 bits; the statuses are this project's own.
 use Rattle.std.specs.Prelude.{◌≡◌, ℕ, List, Option, Some, Result, Ok, Err}
-use Rattle.pw_graph.specs.declared.limit.Which.TheVariants as W
-use Rattle.pw_graph.specs.Limits.{wav_bytes_limit}
+use Rattle.pw_lists.specs.declared.limit.Which.TheVariants as W
+use Rattle.pw_lists.specs.Limits.{wav_bytes_limit}
 use Rattle.wav_files.specs.declared.wav.Wav.{Wav}
 use Rattle.wav_files.specs.WavReading.{wav_of}
 use Rattle.graph_pictures.specs.declared.status.Status.{Status}

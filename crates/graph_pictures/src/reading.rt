@@ -1,11 +1,11 @@
 //! What the files of a request are read as.
 ghost use Rattle.std.specs.Prelude.{◌≡◌, ◌≤◌, length, IsSome, IfOk};
 ghost use Rattle.pw_outside.specs.Files.{names_in};
-ghost use Rattle.pw_graph.specs.Limits.{script_bytes_limit, wav_bytes_limit};
+ghost use Rattle.pw_lists.specs.Limits.{script_bytes_limit, wav_bytes_limit};
 ghost use Rattle.graph_script.specs.Order.{HasOrder};
 ghost use Rattle.graph_script.specs.Ranges.{HasRanges};
 ghost use Rattle.graph_pictures.specs.Reading.{IsLoad, ReadsScript, ParsesTo, trace_place, trace_bytes_limit};
-ghost use Rattle.pw_graph.specs.declared.limit.Which.TheVariants as W;
+ghost use Rattle.pw_lists.specs.declared.limit.Which.TheVariants as W;
 ghost use Rattle.graph_pictures.specs.TraceAnswers.{DrawsTrace, DrawsRun};
 ghost use Rattle.graph_pictures.specs.Answers.{IsGraph, ReadsTrace, IsTracePicture, IsPicture};
 ghost use Rattle.graph_pictures.specs.Causes.{IsCaused};
@@ -19,7 +19,7 @@ use crate::wave_drawing::wave;
 use crate::words::Request;
 use cycle_trace::TraceFault;
 use graph_script::{Script, ScriptFault, parse};
-use pw_graph::{SCRIPT_BYTES_LIMIT, WAV_BYTES_LIMIT, Which};
+use pw_lists::{SCRIPT_BYTES_LIMIT, WAV_BYTES_LIMIT, Which};
 use pw_lists::{Items, Text};
 use pw_outside::{FileFail, Files, Loaded};
 use std::alloc::Global;

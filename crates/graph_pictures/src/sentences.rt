@@ -5,7 +5,7 @@ ghost use Rattle.graph_pictures.specs.Sentences.{shown_byte, file_word, wav_said
 
 use crate::filling::fill;
 use crate::status::Status;
-use pw_graph::Which;
+use pw_lists::Which;
 use pw_lists::{Items, Memory, Text};
 use std::alloc::Global;
 use wav_files::WavFault;

@@ -4,7 +4,7 @@ ghost use Rattle.graph_pictures.specs.StatusText.{status_number, which_in, why_f
 
 use crate::filling::fill;
 use graph_script::ScriptWhy;
-use pw_graph::Which;
+use pw_lists::Which;
 use pw_lists::{Memory, Text};
 use wav_files::WavFault;
 

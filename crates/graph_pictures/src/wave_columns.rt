@@ -1,6 +1,6 @@
 //! The columns of a wave.
 ghost use Rattle.std.specs.Prelude.{◌≡◌, ◌*◌, ◌/◌, ◌<◌, ◌≤◌, length, pos, slice_index_or, IfOk};
-ghost use Rattle.pw_graph.specs.Samples.{sample_at};
+ghost use Rattle.pw_lists.specs.Samples.{sample_at};
 ghost use Rattle.graph_pictures.specs.WaveColumns.{frames_of, lane_of, columns_of, column_of, least_of, greatest_of, depth_of, is_clipped};
 ghost use Rattle.graph_pictures.specs.working.WaveSizes.{wave_frames_limit};
 ghost use Rattle.std.specs.Int.{int_max, int_min};

@@ -1,7 +1,7 @@
 //! The lanes of a wave at the end of a text. After `Memory` the text has a part of them.
 ghost use Rattle.std.specs.Prelude.{◌≡◌, ◌<◌, ◌≤◌, ◌++◌, length, flat_map, OnOk};
 ghost use Rattle.std.specs.List.{range_with_len};
-ghost use Rattle.pw_graph.specs.Limits.{channels_limit};
+ghost use Rattle.pw_lists.specs.Limits.{channels_limit};
 ghost use Rattle.graph_pictures.specs.WaveLanes.{point_of, mark_text, bar_text, column_text, unit_of, ground_text, lane_parts, lane_text};
 ghost use Rattle.graph_pictures.specs.working.WaveSizes.{wave_frames_limit};
 

@@ -1,6 +1,6 @@
 //! The time axis of a wave at the end of a text. After `Memory` the text has a part of it.
 ghost use Rattle.std.specs.Prelude.{◌≡◌, ◌+◌, ◌*◌, ◌/◌, ◌<◌, ◌≤◌, ◌++◌, OnOk};
-ghost use Rattle.pw_graph.specs.Limits.{rate_limit};
+ghost use Rattle.pw_lists.specs.Limits.{rate_limit};
 ghost use Rattle.graph_pictures.specs.WaveTicks.{millis_of, steps, step_among, step_of, place_of, tick_text, step_text, axis};
 ghost use Rattle.graph_pictures.specs.working.WaveSizes.{wave_frames_limit};
 

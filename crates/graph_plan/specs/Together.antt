@@ -4,8 +4,8 @@ use Rattle.std.specs.Prelude.{◌≡◌, ◌⊎◌, ℕ, ◌-◌, ◌&&◌, Bool
 use Rattle.std.specs.Prelude.{Option, Some, None, Result, Ok, Err, Contains, slice_get, option_to_list}
 use Rattle.std.specs.List.{AllZip}
 use Rattle.std.specs.Option.{option_map_or}
-use Rattle.pw_graph.specs.declared.limit.Which.{Which}
-use Rattle.pw_graph.specs.declared.limit.Which.TheVariants as W
+use Rattle.pw_lists.specs.declared.limit.Which.{Which}
+use Rattle.pw_lists.specs.declared.limit.Which.TheVariants as W
 use Rattle.pw_graph.specs.declared.plan.Epoch.{Epoch}
 use Rattle.pw_graph.specs.declared.plan.LinkLine.{LinkLine}
 use Rattle.wav_files.specs.declared.wav.WavIn.{WavIn}

@@ -1,6 +1,6 @@
 //! Why there is no plan.
 
-use pw_graph::Which;
+use pw_lists::Which;
 
 /// Why there is no plan.
 #[derive(Clone, Copy, Debug, PartialEq, Eq, Drop)]

@@ -1,6 +1,6 @@
 //! The parts of a script: the nodes that links join.
 ghost use Rattle.std.specs.Prelude.{◌≡◌, ◌↔◌, ◌++◌, ℕ, ◌<◌, ◌≤◌, true, false, List, length, drop, IfOk, OnOk, All, Contains};
-ghost use Rattle.pw_graph.specs.Limits.{nodes_limit};
+ghost use Rattle.pw_lists.specs.Limits.{nodes_limit};
 ghost use Rattle.graph_script.specs.Kinds.{HasKinds};
 ghost use Rattle.graph_script.specs.Ranges.{HasRanges};
 ghost use Rattle.graph_lines.specs.Activity.{AreJoined};

@@ -1,6 +1,6 @@
 //! The nodes of a plan.
 ghost use Rattle.std.specs.Prelude.{◌≡◌, ℕ, ◌<◌, ◌≤◌, length, slice_get, slice_index_or, Some, IfOk};
-ghost use Rattle.pw_graph.specs.Limits.{nodes_limit};
+ghost use Rattle.pw_lists.specs.Limits.{nodes_limit};
 ghost use Rattle.pw_graph.specs.declared.kind.Kind.TheVariants.{Dummy};
 ghost use Rattle.pw_graph.specs.declared.plan.PlanNode.{PlanNode};
 ghost use Rattle.graph_lines.specs.Activity.{may_drive};

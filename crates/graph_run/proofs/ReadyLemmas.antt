@@ -13,7 +13,7 @@ use Rattle.pw_lists.specs.Listed.{Listed}
 use Rattle.pw_graph.specs.declared.shape.ShapeNode.{ShapeNode}
 use Rattle.pw_graph.specs.declared.plan.Epoch.{Epoch}
 use Rattle.pw_graph.specs.declared.plan.Plan.{Plan}
-use Rattle.pw_graph.specs.Limits.{dummy_node}
+use Rattle.pw_lists.specs.Limits.{dummy_node}
 use Rattle.pw_graph.specs.PlanFresh.{IsEpoch}
 use Rattle.pw_graph.specs.Pools.{IsPooledShape}
 use Rattle.pw_graph.specs.SoundPlan.{IsSoundPlan, IsSoundEpoch}

@@ -12,7 +12,7 @@ use Rattle.pw_graph.specs.declared.shape.ShapeNode.{ShapeNode}
 use Rattle.pw_graph.specs.declared.plan.Epoch.{Epoch}
 use Rattle.pw_graph.specs.declared.plan.Plan.{Plan}
 use Rattle.pw_graph.specs.Dependencies.{nodes_of}
-use Rattle.pw_graph.specs.Limits.{dummy_node, nodes_limit}
+use Rattle.pw_lists.specs.Limits.{dummy_node, nodes_limit}
 use Rattle.pw_graph.specs.PlanFresh.{IsEpoch}
 use Rattle.pw_graph.specs.SoundPlan.{IsSoundPlan, IsSoundEpoch}
 use Rattle.wav_files.specs.declared.wav.WavIn.{WavIn}

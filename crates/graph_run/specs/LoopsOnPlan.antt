@@ -4,7 +4,7 @@
 -- this project's own.
 use Rattle.std.specs.Prelude.{◌≡◌, ◌⊎◌, ℕ, ◌+◌, ◌<◌, ◌≤◌, List, Some, All, Contains, length, slice_get, slice_index_or}
 use Rattle.pw_graph.specs.declared.plan.Epoch.{Epoch}
-use Rattle.pw_graph.specs.Limits.{dummy_node}
+use Rattle.pw_lists.specs.Limits.{dummy_node}
 use Rattle.pw_graph.specs.PlanFresh.{IsEpoch}
 use Rattle.board_rule.specs.declared.board.Board.{Board}
 use Rattle.board_rule.specs.Known.{Known}

@@ -7,7 +7,7 @@ use Rattle.std.specs.List.{range_with_len}
 use Rattle.pw_graph.specs.declared.shape.Shape.{Shape}
 use Rattle.pw_graph.specs.declared.plan.Epoch.{Epoch}
 use Rattle.pw_graph.specs.declared.plan.Plan.{Plan}
-use Rattle.pw_graph.specs.Limits.{nodes_limit}
+use Rattle.pw_lists.specs.Limits.{nodes_limit}
 use Rattle.board_rule.specs.declared.board_shape.BoardShape.{BoardShape}
 use Rattle.graph_run.specs.declared.seating.Seating.{Seating}
 use Rattle.graph_run.specs.Assignment.{drives_somewhere}

@@ -1,6 +1,6 @@
 //! Which loop each node belongs to.
 ghost use Rattle.std.specs.Prelude.{◌≡◌, ◌≤◌, IfOk, length};
-ghost use Rattle.pw_graph.specs.Limits.{nodes_limit};
+ghost use Rattle.pw_lists.specs.Limits.{nodes_limit};
 ghost use Rattle.graph_run.specs.Assignment.{drives_somewhere, loop_of, owner_row};
 
 use pw_graph::Plan;

@@ -1,6 +1,6 @@
 //! What the sinks and meters of a plan have kept.
 ghost use Rattle.std.specs.Prelude.{◌≡◌, ◌<◌, ◌≤◌, ◌+◌, ◌++◌, ℕ, suc, [], List, Some, length, option_to_list, slice_get};
-ghost use Rattle.pw_graph.specs.Limits.{dummy_node};
+ghost use Rattle.pw_lists.specs.Limits.{dummy_node};
 ghost use Rattle.wav_files.specs.declared.wav.WavIn.{WavIn};
 ghost use Rattle.cycle_model.specs.Rendering.{kept_of, peak_at, rendered_sinks, rendered_peaks};
 ghost use Rattle.graph_run.specs.Outcomes.{HasNodeAt, HaveAll, AreDone, AreLeftFrom};

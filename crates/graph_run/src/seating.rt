@@ -1,7 +1,7 @@
 //! Who is on which seat of the boards.
 ghost use Rattle.std.specs.Prelude.{◌≡◌, ◌≤◌, IfOk, length, map};
 ghost use Rattle.std.specs.List.{range_with_len};
-ghost use Rattle.pw_graph.specs.Limits.{nodes_limit};
+ghost use Rattle.pw_lists.specs.Limits.{nodes_limit};
 ghost use Rattle.graph_run.specs.Assignment.{loop_of, cell_number, cell_count};
 ghost use Rattle.graph_run.specs.Seating.{IsSeatingOf, holder_of, nodes_of_loop, seat_row, seated_by};
 

@@ -1,6 +1,6 @@
 //! The queues of a plan's loops, and the way of each thread to them.
 ghost use Rattle.std.specs.Prelude.{◌≡◌, ◌≤◌, ℕ, IfOk, Some, length, slice_get};
-ghost use Rattle.pw_graph.specs.Limits.{nodes_limit};
+ghost use Rattle.pw_lists.specs.Limits.{nodes_limit};
 ghost use Rattle.ready_queues.specs.declared.way.Way.{Way};
 ghost use Rattle.ready_queues.specs.Lanes.{loops_limit};
 ghost use Rattle.ready_queues.specs.Opening.{IsNewWay};

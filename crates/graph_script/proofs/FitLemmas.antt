@@ -6,8 +6,8 @@ use Rattle.std.proofs.lemmas.Int.{ints}
 use Rattle.pw_graph.specs.declared.ids.PortId.{PortId}
 use Rattle.pw_graph.specs.declared.kind.Kind.{Kind}
 use Rattle.pw_graph.specs.declared.kind.Kind.TheVariants as K
-use Rattle.pw_graph.specs.declared.limit.Which.TheVariants as L
-use Rattle.pw_graph.specs.Limits.{rate_limit, channels_limit, quantum_limit, buffers_limit}
+use Rattle.pw_lists.specs.declared.limit.Which.TheVariants as L
+use Rattle.pw_lists.specs.Limits.{rate_limit, channels_limit, quantum_limit, buffers_limit}
 use Rattle.graph_script.specs.declared.fault.ScriptWhy.TheVariants as W
 use Rattle.graph_script.specs.declared.command.Command.{Command}
 use Rattle.graph_script.specs.declared.command.Command.TheVariants as C

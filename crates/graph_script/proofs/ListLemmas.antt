@@ -4,7 +4,7 @@ use Rattle.std.proofs.Common.{length-append, append_assoc, append-nil}
 use Rattle.std.specs.Prelude.{Option, Some, None, is_some, nat_le, if◌then◌else◌}
 use Rattle.std.specs.List.{list_all, slice_split}
 use Rattle.std.proofs.lemmas.Bool.{le-leb, lt-leb, and_right}
-use Rattle.pw_graph.specs.Limits.{channels_limit}
+use Rattle.pw_lists.specs.Limits.{channels_limit}
 use Rattle.graph_script.specs.Arguments.{number_of, digits_number, is_channel, is_comma, channel_list}
 use Rattle.graph_script.proofs.RangeLemmas.{digits_number-number_of}
 

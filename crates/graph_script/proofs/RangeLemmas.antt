@@ -7,7 +7,7 @@ use Rattle.std.proofs.lemmas.Int.{ints}
 use Rattle.std.proofs.lemmas.List.Elements.{All-nil, All-cons}
 use Rattle.std.proofs.lemmas.List.Splits.{length-slice_split}
 use Rattle.pw_graph.specs.SoundShape.{IsBetween}
-use Rattle.pw_graph.specs.Limits.{channels_limit}
+use Rattle.pw_lists.specs.Limits.{channels_limit}
 use Rattle.graph_script.specs.declared.fault.ScriptWhy.TheVariants as W
 use Rattle.graph_script.specs.Arguments.{number_of, integer_of, is_within, is_numeral, digits_number, is_channel, channel_list, is_comma}
 use Rattle.graph_script.specs.Checked.{number_arg, integer_arg, list_arg}

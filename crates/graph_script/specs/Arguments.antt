@@ -3,7 +3,7 @@
 use Rattle.std.specs.Prelude.{ℕ, ◌+◌, ◌-◌, ◌*◌, ◌==◌, ◌&&◌, ◌||◌, Bool, false, not, List, [], ◌∷◌, length, fold, Option, Some}
 use Rattle.std.specs.Prelude.{None, option_map, is_some, nat_le, ℤ, pos, neg_ℤ, map, if◌then◌else◌}
 use Rattle.std.specs.List.{list_all, slice_split}
-use Rattle.pw_graph.specs.Limits.{channels_limit}
+use Rattle.pw_lists.specs.Limits.{channels_limit}
 use Rattle.graph_script.specs.Limits.{name_rest_limit}
 
 abbrev pub is_within : ℕ → ℕ → ℕ → Bool

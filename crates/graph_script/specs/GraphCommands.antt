@@ -1,7 +1,7 @@
 -- The commands for cycles and for nodes that are there, each by its arguments and what earlier
 -- lines forbid. Source: the ranges of the numbers are this project's own.
 use Rattle.std.specs.Prelude.{ℕ, List, [], ◌∷◌, Err, if◌then◌else◌}
-use Rattle.pw_graph.specs.Limits.{quantum_limit}
+use Rattle.pw_lists.specs.Limits.{quantum_limit}
 use Rattle.graph_script.specs.declared.fault.ScriptWhy.TheVariants as W
 use Rattle.graph_script.specs.declared.command.Command.{Command}
 use Rattle.graph_script.specs.declared.command.Command.TheVariants as C

@@ -1,6 +1,6 @@
 -- Limits of a script: the greatest numbers that its commands may have. Source: this project's own.
 use Rattle.std.specs.Prelude.{ℕ}
-pub use Rattle.pw_graph.specs.Limits.{nodes_limit, period_limit, delay_limit, amp_limit, gain_limit}
+pub use Rattle.pw_lists.specs.Limits.{nodes_limit, period_limit, delay_limit, amp_limit, gain_limit}
 
 -- the lines `cycles` and `drain` of a script
 abbrev pub epochs_limit : ℕ

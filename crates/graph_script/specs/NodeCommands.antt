@@ -1,7 +1,7 @@
 -- The commands that make a node, each by its arguments. Source: the ranges of the numbers are this
 -- project's own.
 use Rattle.std.specs.Prelude.{ℕ, List, Ok, pos}
-use Rattle.pw_graph.specs.Limits.{rate_limit, channels_limit}
+use Rattle.pw_lists.specs.Limits.{rate_limit, channels_limit}
 use Rattle.pw_graph.specs.declared.kind.Kind.TheVariants as K
 use Rattle.graph_script.specs.declared.command.Command.TheVariants as C
 use Rattle.graph_script.specs.declared.reading.Said.{Said}

@@ -2,7 +2,7 @@
 -- the range of the number is this project's own.
 use Rattle.std.specs.Prelude.{ℕ, List, Ok, Err, if◌then◌else◌}
 use Rattle.pw_graph.specs.declared.ids.PortId.{PortId}
-use Rattle.pw_graph.specs.Limits.{buffers_limit}
+use Rattle.pw_lists.specs.Limits.{buffers_limit}
 use Rattle.graph_script.specs.declared.fault.ScriptWhy.TheVariants as W
 use Rattle.graph_script.specs.declared.command.Command.TheVariants as C
 use Rattle.graph_script.specs.declared.reading.Said.{Said}

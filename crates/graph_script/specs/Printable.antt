@@ -1,6 +1,6 @@
 -- Scripts that can be written as text: those that were read. Source: this project's own.
 use Rattle.std.specs.Prelude.{◌≡◌, ℕ, ◌≤◌, List, [], ◌∷◌, length, Ok}
-use Rattle.pw_graph.specs.Limits.{script_bytes_limit}
+use Rattle.pw_lists.specs.Limits.{script_bytes_limit}
 use Rattle.pw_graph.specs.declared.kind.Kind.{Kind}
 use Rattle.graph_script.specs.declared.script.Line.{Line}
 use Rattle.graph_script.specs.declared.script.Script.{Script}

@@ -2,7 +2,7 @@
 -- this project's own.
 use Rattle.std.specs.Prelude.{ℕ, ◌<◌, ◌≤◌, length, All, IsTrue}
 use Rattle.pw_graph.specs.SoundShape.{IsBetween}
-use Rattle.pw_graph.specs.Limits.{dummy_node, quantum_limit, buffers_limit}
+use Rattle.pw_lists.specs.Limits.{dummy_node, quantum_limit, buffers_limit}
 use Rattle.pw_graph.specs.declared.kind.Kind.TheVariants as K
 use Rattle.pw_graph.specs.KindRanges as kinds
 use Rattle.graph_script.specs.declared.command.Command.{Command}

@@ -14,7 +14,8 @@ use crate::nodes::{kind_at, node_at};
 use crate::numbers::number_in;
 use crate::progress::{Progress, is_linked};
 use crate::reading::{Reading, Said};
-use pw_graph::{Kind, QUANTUM_LIMIT, Which};
+use pw_graph::Kind;
+use pw_lists::{QUANTUM_LIMIT, Which};
 
 // What a command says that makes no node.
 fn saying(command: Command) -> Said

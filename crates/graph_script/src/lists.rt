@@ -1,12 +1,12 @@
 //! Lists of channels.
 ghost use Rattle.std.specs.Prelude.{◌≡◌, ◌≤◌, IfOk};
-ghost use Rattle.pw_graph.specs.Limits.{channels_limit};
+ghost use Rattle.pw_lists.specs.Limits.{channels_limit};
 ghost use Rattle.graph_script.specs.Arguments.{channel_list};
 ghost use Rattle.graph_script.specs.Checked.{list_arg};
 
 use crate::fault::ScriptWhy;
 use crate::numbers::number_within;
-use pw_graph::CHANNELS_LIMIT;
+use pw_lists::CHANNELS_LIMIT;
 use pw_lists::{Items, Memory, next_piece};
 use std::alloc::Global;
 

@@ -1,6 +1,6 @@
 //! The command that makes a map, with its list of channels.
 ghost use Rattle.std.specs.Prelude.{◌≡◌, ◌≤◌, IfOk};
-ghost use Rattle.pw_graph.specs.Limits.{channels_limit};
+ghost use Rattle.pw_lists.specs.Limits.{channels_limit};
 ghost use Rattle.pw_graph.specs.declared.kind.Kind.TheVariants as K;
 ghost use Rattle.graph_script.specs.declared.command.Command.TheVariants as C;
 ghost use Rattle.graph_script.specs.Lexical.{words_of};
@@ -17,7 +17,8 @@ use crate::new_nodes::{making, said_of};
 use crate::nodes::new_node;
 use crate::numbers::number_in;
 use crate::reading::{Reading, Said};
-use pw_graph::{CHANNELS_LIMIT, Kind};
+use pw_graph::Kind;
+use pw_lists::CHANNELS_LIMIT;
 use pw_lists::{Items, Memory};
 use std::alloc::Global;
 

@@ -1,6 +1,6 @@
 //! Names of nodes, and file words.
 ghost use Rattle.std.specs.Prelude.{◌≡◌, ◌≤◌, length, position, bytes_eq};
-ghost use Rattle.pw_graph.specs.Limits.{nodes_limit};
+ghost use Rattle.pw_lists.specs.Limits.{nodes_limit};
 ghost use Rattle.std.specs.List.{list_all};
 ghost use Rattle.graph_script.specs.Arguments.{is_letter, is_name_byte, is_node_name};
 ghost use Rattle.graph_script.specs.Checked.{checked_map, file_arg};

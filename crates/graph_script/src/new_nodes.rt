@@ -8,7 +8,8 @@ use crate::command::Command;
 use crate::fault::ScriptWhy;
 use crate::limits::NODES_LIMIT;
 use crate::reading::{Made, NewNode, Reading, Said};
-use pw_graph::{Kind, Which};
+use pw_graph::Kind;
+use pw_lists::Which;
 use pw_lists::{Items, Memory};
 use std::alloc::Global;
 

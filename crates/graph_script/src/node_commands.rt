@@ -14,7 +14,8 @@ use crate::new_nodes::making;
 use crate::nodes::new_node;
 use crate::numbers::{integer_in, number_in};
 use crate::reading::{NewNode, Reading};
-use pw_graph::{AMP_LIMIT, CHANNELS_LIMIT, DELAY_LIMIT, GAIN_LIMIT, Kind, PERIOD_LIMIT, RATE_LIMIT};
+use pw_graph::Kind;
+use pw_lists::{AMP_LIMIT, CHANNELS_LIMIT, DELAY_LIMIT, GAIN_LIMIT, PERIOD_LIMIT, RATE_LIMIT};
 
 /// `square NAME RATE CHANNELS PERIOD AMP`
 pub(crate) fn square<'a>(reading: &Reading, args: &'a [u8]) -> Result<NewNode<'a>, ScriptWhy>

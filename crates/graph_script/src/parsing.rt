@@ -1,6 +1,6 @@
 //! A whole script, line by line.
 ghost use Rattle.std.specs.Prelude.{◌≤◌, length, IfOk};
-ghost use Rattle.pw_graph.specs.Limits.{script_bytes_limit};
+ghost use Rattle.pw_lists.specs.Limits.{script_bytes_limit};
 ghost use Rattle.graph_script.specs.Grammar.{script_of, IsRead};
 ghost use Rattle.graph_script.specs.Kinds.{HasKinds};
 ghost use Rattle.graph_script.specs.Order.{HasOrder};

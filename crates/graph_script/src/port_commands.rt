@@ -13,7 +13,8 @@ use crate::nodes::{input_at, output_at, port_at};
 use crate::numbers::number_in;
 use crate::progress::{Progress, is_linked};
 use crate::reading::{Reading, Said};
-use pw_graph::{BUFFERS_LIMIT, PortId};
+use pw_graph::PortId;
+use pw_lists::BUFFERS_LIMIT;
 use pw_lists::{Items, Memory};
 use std::alloc::Global;
 

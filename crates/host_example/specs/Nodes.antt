@@ -5,7 +5,7 @@ use Rattle.std.specs.Prelude.{option_map, option_to_list}
 use Rattle.pw_graph.specs.declared.kind.Kind.{Kind}
 use Rattle.pw_graph.specs.declared.kind.Kind.TheVariants as K
 use Rattle.pw_graph.specs.KindRanges.{IsInRange}
-use Rattle.pw_graph.specs.Limits.{nodes_limit}
+use Rattle.pw_lists.specs.Limits.{nodes_limit}
 use Rattle.wav_files.specs.declared.wav.Wav.{Wav}
 use Rattle.graph_script.specs.declared.command.Command.{Command}
 use Rattle.graph_script.specs.declared.script.Line.{Line}

@@ -3,7 +3,7 @@
 -- Source: PipeWire's documentation, "SPA Buffers"; spa/node/io.h, spa_io_buffers; the words of
 -- pools are this project's own.
 use Rattle.std.specs.Prelude.{◌≡◌, ℕ, ℤ, pos, ◌+◌, ◌-◌, Bool, cond, ltb, List, map, replicate, slice_set as set}
-use Rattle.pw_graph.specs.Samples.{clamped}
+use Rattle.pw_lists.specs.Samples.{clamped}
 use Rattle.board_rule.specs.declared.view.View.{View}
 use Rattle.board_rule.specs.Layout.{BoardLayout, first}
 use Rattle.board_rule.specs.View.{Samples}

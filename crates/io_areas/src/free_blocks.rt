@@ -1,7 +1,7 @@
 //! The free blocks of a pool at the start of an epoch.
 ghost use Rattle.std.specs.Prelude.{◌≡◌, ◌≤◌, ◌&&◌, IfOk};
 ghost use Rattle.std.specs.List.{list_any};
-ghost use Rattle.pw_graph.specs.Limits.{buffers_limit};
+ghost use Rattle.pw_lists.specs.Limits.{buffers_limit};
 ghost use Rattle.pw_graph.specs.Pools.{is_same_port};
 ghost use Rattle.board_rule.specs.View.{is_delayed};
 ghost use Rattle.io_areas.specs.FreeBlocks.{free_at_start};

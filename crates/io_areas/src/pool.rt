@@ -1,6 +1,6 @@
 //! The free numbers of one pool, first in, first out.
 ghost use Rattle.std.specs.Prelude.{◌≡◌, ◌<◌, ◌≤◌, [], ◌∷◌, ◌++◌, length, Contains, IfOk};
-ghost use Rattle.pw_graph.specs.Limits.{buffers_limit};
+ghost use Rattle.pw_lists.specs.Limits.{buffers_limit};
 ghost use Rattle.io_areas.specs.Queue.{numbers_below};
 
 use circular_buffer::HeapCircularBuffer;

@@ -1,7 +1,7 @@
 -- What a link line does: the first condition that holds decides, and only a link changes anything.
 -- Source: PipeWire's documentation, "Objects Design", Link; the order of conditions is ours.
 use Rattle.std.specs.Prelude.{◌≡◌, ◌⊎◌, ℕ, ◌<◌, ◌≤◌, true, false, List, [], ◌∷◌, ◌++◌, length, Option, Some, None}
-use Rattle.pw_graph.specs.Limits.{links_limit, buffers_limit}
+use Rattle.pw_lists.specs.Limits.{links_limit, buffers_limit}
 use Rattle.std.specs.Option.{option_or}
 use Rattle.pw_graph.specs.SoundShape.{IsBetween}
 use Rattle.pw_graph.specs.declared.ids.PortId.{PortId}

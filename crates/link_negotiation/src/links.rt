@@ -1,6 +1,6 @@
 //! The links that are there.
 ghost use Rattle.std.specs.Prelude.{◌≡◌, ◌<◌, [], false, length, replicate, slice_set, IfOk, true};
-ghost use Rattle.pw_graph.specs.Limits.{nodes_limit};
+ghost use Rattle.pw_lists.specs.Limits.{nodes_limit};
 ghost use Rattle.link_negotiation.specs.Links.{joins, are_linked, has_link, is_synchronous};
 ghost use Rattle.link_negotiation.specs.working.Searching.{is_reached};
 

@@ -1,6 +1,6 @@
 //! How a link is negotiated and made.
 ghost use Rattle.std.specs.Prelude.{◌≡◌, ◌⊎◌, ◌↔◌, ◌<◌, ◌++◌, ◌∷◌, [], length, IsTrue, IfOk, IfSome, OnOk, OnErr};
-ghost use Rattle.pw_graph.specs.Limits.{links_limit};
+ghost use Rattle.pw_lists.specs.Limits.{links_limit};
 ghost use Rattle.pw_graph.specs.SoundShape.{IsBetween};
 ghost use Rattle.port_model.specs.PortState.{IsPort, IsInput, IsOutput, AtPort, with_port};
 ghost use Rattle.port_model.specs.SoundPorts.{AreSoundNodes};

@@ -9,7 +9,7 @@ use Rattle.pw_graph.specs.declared.plan.Plan.{Plan}
 use Rattle.pw_graph.specs.KindFunction.{KindInputs}
 use Rattle.pw_graph.specs.KindPorts.{input_count}
 use Rattle.pw_graph.specs.PlanForms.{kind_at}
-use Rattle.pw_graph.specs.Samples.{peak_of}
+use Rattle.pw_lists.specs.Samples.{peak_of}
 use Rattle.pw_graph.specs.SoundPlan.{IsSoundPlan}
 use Rattle.pw_graph.specs.PlanSums.{is_sink}
 use Rattle.wav_files.specs.declared.outcome.Kept.{Kept}

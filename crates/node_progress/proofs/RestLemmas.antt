@@ -22,7 +22,7 @@ use Rattle.pw_graph.specs.declared.kind.Kind.{Kind}
 use Rattle.pw_graph.specs.declared.kind.Kind.TheVariants.{Source, Square, Gain, Mix2, Delay, Map, Split, Sink, Meter, Dummy}
 use Rattle.pw_graph.specs.declared.plan.PortForm.{PortForm}
 use Rattle.pw_graph.specs.Pools.{is_same_port}
-use Rattle.pw_graph.specs.Samples.{clamped, silence, summed}
+use Rattle.pw_lists.specs.Samples.{clamped, silence, summed}
 use Rattle.pw_graph.proofs.PoolLemmas.{same_port}
 use Rattle.cycle_model.specs.declared.received.Received.{Received}
 use Rattle.cycle_model.specs.Epochs.{is_within, epoch_at, is_active, channels_of, channels_at, links_into, stream_start}

@@ -1,6 +1,6 @@
 //! A node's state before the run.
 ghost use Rattle.std.specs.Prelude.{◌≡◌, ◌<◌, length, IfOk, option_copied};
-ghost use Rattle.pw_graph.specs.Limits.{quantum_limit};
+ghost use Rattle.pw_lists.specs.Limits.{quantum_limit};
 ghost use Rattle.pw_graph.specs.SoundPlan.{IsSoundPlan};
 ghost use Rattle.pw_graph.specs.SoundShape.{IsBetween};
 ghost use Rattle.cycle_model.specs.WavesFit.{WavesFit};
@@ -11,7 +11,8 @@ use crate::frames::worked_cycles;
 use crate::restarting::{fresh_in, restart_in};
 use crate::score::Score;
 use node_state::NodeState;
-use pw_graph::{Plan, QUANTUM_LIMIT};
+use pw_graph::Plan;
+use pw_lists::QUANTUM_LIMIT;
 use pw_lists::{Items, Memory};
 use std::alloc::Global;
 use wav_files::{Wav, WavIn};

@@ -8,7 +8,7 @@ use Rattle.std.proofs.lemmas.List.{map-append, take-append-le, drop-append-le, l
 use Rattle.std.proofs.Math.Nat.{mod-add-mod, mod-add-div'}
 use Rattle.std.proofs.Math.Seq.{drop-length, drop-append_seam}
 use Rattle.pw_graph.specs.declared.kind.Kind.{Kind}
-use Rattle.pw_graph.specs.Samples.{scaled, mixed, silence, of_frames}
+use Rattle.pw_lists.specs.Samples.{scaled, mixed, silence, of_frames}
 use Rattle.pw_graph.specs.KindFunction.{KindInputs, kind_output, square_at}
 use Rattle.s16_mixer.proofs.FrameLemmas.{of_frames-add, picked_append}
 use Rattle.node_state.specs.declared.kind_state.KindState.{KindState}

@@ -4,7 +4,7 @@ use Rattle.std.proofs.Common.{ap₂, subst, arith, length-append, append_assoc, 
 use Rattle.std.proofs.lemmas.Grind.{common_steps}
 use Rattle.std.proofs.lemmas.List.{drop-append-le}
 use Rattle.std.proofs.Math.Nat.{mod-add-mod}
-use Rattle.pw_graph.specs.Samples.{silence, peak_of}
+use Rattle.pw_lists.specs.Samples.{silence, peak_of}
 use Rattle.pw_graph.specs.KindFunction.{KindInputs}
 use Rattle.s16_mixer.proofs.PeakLemmas.{peak_append}
 use Rattle.node_state.specs.declared.kind_state.KindState.{KindState}

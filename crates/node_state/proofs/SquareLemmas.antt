@@ -5,7 +5,7 @@ use Rattle.std.specs.List.{range_with_len}
 use Rattle.std.proofs.Math.Nat.{mod-add-mod}
 use Rattle.std.proofs.lemmas.List.FromFn.{length-map-range_with_len}
 use borrow.Rule.Slice.PartMut.{put_mid}
-use Rattle.pw_graph.specs.Samples.{of_frames}
+use Rattle.pw_lists.specs.Samples.{of_frames}
 use Rattle.pw_graph.specs.KindFunction.{square_at}
 use Rattle.s16_mixer.proofs.FrameLemmas.{of_frames-add}
 use Rattle.s16_mixer.proofs.LaneLemmas.{piece_written}

@@ -2,7 +2,7 @@
 -- Source: the graph's nodes of PipeWire's documentation, "Graph Scheduling"; the kinds are this
 -- project's.
 use Rattle.std.specs.Prelude.{◌≡◌, ℕ, ◌*◌, ◌%◌, ◌≤◌, min, List, [], ◌++◌, length, take, drop, ℤ, ◌⊎◌}
-use Rattle.pw_graph.specs.Samples.{silence, peak_of}
+use Rattle.pw_lists.specs.Samples.{silence, peak_of}
 use Rattle.pw_graph.specs.KindFunction.{KindInputs}
 use Rattle.node_state.specs.declared.kind_state.KindState.{KindState}
 use Rattle.node_state.specs.declared.kind_state.KindState.TheVariants.{Source, Square, Gain, Mix2, Delay, Map, Split, Sink, Meter}

@@ -5,7 +5,7 @@
 use Rattle.std.specs.Prelude.{◌≡◌, ℕ, ◌-◌, ◌+◌, List, [], ◌++◌, length, drop, ℤ, ◌⊎◌, Option, Some, None}
 use Rattle.pw_graph.specs.declared.kind.Kind.{Kind}
 use Rattle.pw_graph.specs.declared.kind.Kind.TheVariants as K
-use Rattle.pw_graph.specs.Samples.{peak_of}
+use Rattle.pw_lists.specs.Samples.{peak_of}
 use Rattle.pw_graph.specs.KindFunction.{KindInputs, kind_output}
 use Rattle.wav_files.specs.declared.wav.Wav.{Wav}
 use Rattle.node_state.specs.Slices.{left_channels}

@@ -28,7 +28,7 @@ impl KindState {
     ghost use Rattle.pw_graph.specs.KindFunction.{KindInputs};
     ghost use Rattle.pw_graph.specs.KindPorts.{input_count};
     ghost use Rattle.pw_graph.specs.KindRanges.{IsInRange};
-    ghost use Rattle.pw_graph.specs.Limits.{quantum_limit};
+    ghost use Rattle.pw_lists.specs.Limits.{quantum_limit};
     ghost use Rattle.node_state.specs.States.{kind_of, wave_channels, stream_of, room_in, wanted_room};
     ghost use Rattle.node_state.specs.working.Steps.{CanStep, given_by, IsStep};
     ghost use Rattle.node_state.specs.StandsFor.{Keeps};

@@ -1,6 +1,6 @@
 //! What a node keeps between quanta.
 ghost use Rattle.std.specs.Prelude.{ℕ, ◌*◌, ◌≤◌, length};
-ghost use Rattle.pw_graph.specs.Limits.{quantum_limit};
+ghost use Rattle.pw_lists.specs.Limits.{quantum_limit};
 ghost use Rattle.pw_graph.specs.SoundShape.{IsBetween};
 ghost use Rattle.node_state.specs.States.{stream_of, room_in, wanted_room};
 

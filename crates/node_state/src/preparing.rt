@@ -3,7 +3,7 @@ ghost use Rattle.std.specs.Prelude.{◌≡◌, ◌<◌, ◌≤◌, [], IfOk, opt
 ghost use Rattle.pw_graph.specs.KindFunction.{KindInputs};
 ghost use Rattle.pw_graph.specs.KindPorts.{input_count};
 ghost use Rattle.pw_graph.specs.KindRanges.{IsInRange};
-ghost use Rattle.pw_graph.specs.Limits.{quantum_limit};
+ghost use Rattle.pw_lists.specs.Limits.{quantum_limit};
 ghost use Rattle.pw_graph.specs.SoundShape.{IsBetween};
 ghost use Rattle.node_state.specs.Slices.{AllowsChannels};
 ghost use Rattle.node_state.specs.StandsFor.{StandsFor, IsPrepared, IsRestarted, node_kind, node_wave_channels, node_channels};

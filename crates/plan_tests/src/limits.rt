@@ -2,7 +2,7 @@
 
 use crate::showing::{Part, expect_limit, expect_part};
 use crate::texts::plan_text;
-use pw_graph::Which;
+use pw_lists::Which;
 use pw_lists::Memory;
 use std::test::Fail;
 

@@ -3,7 +3,8 @@
 use crate::silence::Silence;
 use crate::texts::{TextFault, plans_text};
 use graph_plan::PlanFault;
-use pw_graph::{LineOutcome, LinkLine, Part, Parts, Shape, Which};
+use pw_graph::{LineOutcome, LinkLine, Part, Parts, Shape};
+use pw_lists::Which;
 use pw_lists::Memory;
 use std::alloc::Global;
 use std::process::Abort;

@@ -3,7 +3,8 @@
 use crate::silence::Silence;
 use crate::texts::{TextFault, plan_text};
 use graph_plan::PlanFault;
-use pw_graph::{Epoch, Fresh, Plan, PortForm, ShapeLink, ShapeNode, Which};
+use pw_graph::{Epoch, Fresh, Plan, PortForm, ShapeLink, ShapeNode};
+use pw_lists::Which;
 use pw_lists::Memory;
 use std::alloc::Global;
 use std::process::Abort;

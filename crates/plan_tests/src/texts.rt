@@ -9,7 +9,8 @@ use crate::inputs::{PlanInputs, inputs_of};
 use crate::silence::Silence;
 use graph_plan::{PlanFault, part_nodes, parts, plan};
 use graph_script::{Script, parse};
-use pw_graph::{Parts, Plan, SCRIPT_BYTES_LIMIT};
+use pw_graph::{Parts, Plan};
+use pw_lists::SCRIPT_BYTES_LIMIT;
 use pw_lists::{Items, Memory};
 use std::alloc::Global;
 

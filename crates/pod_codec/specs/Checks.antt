@@ -2,7 +2,7 @@
 -- spa/pod/pod.h; the order of the checks is this project's.
 use Rattle.std.specs.Prelude.{◌≡◌, ℕ, ◌+◌, ◌-◌, ◌%◌, ◌==◌, ◌&&◌, not, nat_lt, nat_le, Bool, true, List, [], ◌∷◌, length}
 use Rattle.std.specs.Prelude.{slice_index, Option, Some, None, Result, Ok, Err, if◌then◌else◌}
-use Rattle.pw_graph.specs.Limits.{pod_bytes_limit}
+use Rattle.pw_lists.specs.Limits.{pod_bytes_limit}
 use Rattle.pod_codec.specs.declared.fault.PodFault.{PodFault}
 use Rattle.pod_codec.specs.declared.fault.PodFault.TheVariants.{Short, TypeUnknown, Size, Uneven, Large, Nul, Memory}
 use Rattle.pod_codec.specs.PodType.{is_known_type, child_size}

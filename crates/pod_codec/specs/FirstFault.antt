@@ -2,7 +2,7 @@
 -- what it holds. Source: SPA POD, "Types"; spa/pod/pod.h; the order of the checks is this
 -- project's.
 use Rattle.std.specs.Prelude.{◌≡◌, ℕ, zero, suc, ◌+◌, ◌≤◌, ◌<◌, ◌⊎◌, List, length, Some, None, Result, Ok, Err}
-use Rattle.pw_graph.specs.Limits.{depth_limit}
+use Rattle.pw_lists.specs.Limits.{depth_limit}
 use Rattle.pod_codec.specs.declared.fault.PodFault.{PodFault}
 use Rattle.pod_codec.specs.declared.fault.PodFault.TheVariants.{Short, Deep, Memory}
 use Rattle.pod_codec.specs.Places.{u32_at, AreAfter}

@@ -1,7 +1,7 @@
 -- Spelling of PODs: which bytes spell which value, with free padding and any nonzero Bool. Source:
 -- SPA POD, "Types"; spa/pod/pod.h. Places count from the first byte; a body goes from b to e.
 use Rattle.std.specs.Prelude.{◌≡◌, ℕ, zero, suc, ◌+◌, ◌-◌, ◌≤◌, ◌<◌, ◌⊎◌, List, [], length, slice_index, slice_range}
-use Rattle.pw_graph.specs.Limits.{depth_limit, pod_bytes_limit}
+use Rattle.pw_lists.specs.Limits.{depth_limit, pod_bytes_limit}
 use Rattle.pod_codec.specs.declared.pod.Pod.{Pod}
 use Rattle.pod_codec.specs.declared.pod.Prop.{Prop}
 use Rattle.pod_codec.specs.declared.pod.Control.{Control}

@@ -1,7 +1,7 @@
 -- Which values can be written. Source: SPA POD, "Types"; the greatest depth and length are this
 -- project's.
 use Rattle.std.specs.Prelude.{◌≡◌, ℕ, suc, ◌≤◌, List, ◌++◌, length, Result, Ok, Err, IsTrue}
-use Rattle.pw_graph.specs.Limits.{depth_limit, pod_bytes_limit}
+use Rattle.pw_lists.specs.Limits.{depth_limit, pod_bytes_limit}
 use Rattle.pod_codec.specs.declared.pod.Pod.{Pod}
 use Rattle.pod_codec.specs.declared.fault.WriteFault.{WriteFault}
 use Rattle.pod_codec.specs.declared.fault.WriteFault.TheVariants.{Unwritable, Memory}

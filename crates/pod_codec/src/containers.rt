@@ -2,7 +2,7 @@
 ghost use Rattle.std.specs.Prelude.{◌≡◌, ℕ, List, ◌+◌, ◌-◌, ◌≤◌, ◌<◌, ◌^◌, ◌==◌, ◌++◌, length, take, drop, replicate};
 ghost use Rattle.std.specs.Prelude.{map, IsTrue, OnOk};
 ghost use Rattle.std.specs.List.{flat_map, list_all};
-ghost use Rattle.pw_graph.specs.Limits.{pod_bytes_limit};
+ghost use Rattle.pw_lists.specs.Limits.{pod_bytes_limit};
 ghost use Rattle.pod_codec.specs.PodType.{child_size};
 ghost use Rattle.pod_codec.specs.Framing.{Form, framed, pad8, u32_bytes, child_bytes, are_children};
 ghost use Rattle.pod_codec.specs.PodValue.{form_of};
@@ -13,7 +13,7 @@ use crate::fault::WriteFault;
 use crate::pod::Pod;
 use crate::pod_type::size_of_child;
 use crate::scalars::{put_element, put_pair};
-use pw_graph::POD_BYTES_LIMIT;
+use pw_lists::POD_BYTES_LIMIT;
 use pw_lists::{Items, Memory};
 
 /// How many levels of values a POD may have.

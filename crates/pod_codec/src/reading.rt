@@ -1,6 +1,6 @@
 //! The value that bytes spell, or their first fault.
 ghost use Rattle.std.specs.Prelude.{◌≡◌, ℕ, List, ◌+◌, ◌++◌, ◌-◌, ◌≤◌, ◌<◌, ◌⊎◌, [], length, slice_index, slice_range};
-ghost use Rattle.pw_graph.specs.Limits.{depth_limit};
+ghost use Rattle.pw_lists.specs.Limits.{depth_limit};
 ghost use Rattle.std.specs.Prelude.{IfOk, IfSome, IsNone};
 ghost use Rattle.pod_codec.specs.declared.pod.Pod.TheViews.{out-Pod, out-Prop, out-Control};
 ghost use Rattle.pod_codec.specs.declared.pod.Pod.{Pod};

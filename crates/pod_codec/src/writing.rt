@@ -1,6 +1,6 @@
 //! The bytes of a value: SPA POD, "Types".
 ghost use Rattle.std.specs.Prelude.{◌≡◌, ◌+◌, ◌≤◌, ◌++◌, length, map, OnOk, OnErr, IsTrue};
-ghost use Rattle.pw_graph.specs.Limits.{depth_limit};
+ghost use Rattle.pw_lists.specs.Limits.{depth_limit};
 ghost use Rattle.std.specs.List.{flat_map, AllByRecursion};
 ghost use Rattle.pod_codec.specs.Framing.{are_children, framed, keyed_bytes};
 ghost use Rattle.pod_codec.specs.PodValue.{form_of, keyed_of, control_keyed, struct_form, object_form, sequence_form, choice_form, canonical};

@@ -1,7 +1,7 @@
 -- The bytes of a text.
 use Rattle.std.proofs.Common.{◌≡◌, ℕ, List, Ok, Err}
 use Rattle.std.specs.Prelude.{Result}
-use Rattle.pw_graph.specs.Limits.{depth_limit}
+use Rattle.pw_lists.specs.Limits.{depth_limit}
 use Rattle.pod_codec.specs.declared.pod.Pod.{Pod}
 use Rattle.pod_codec.specs.DumpText.{dump_text_of}
 use Rattle.dump_reading.specs.Sayable.{IsSayable}

@@ -6,7 +6,7 @@ use Rattle.std.proofs.lemmas.List.Elements.{All-push}
 use Rattle.std.proofs.lemmas.List.Quantifiers.{all_pairs_push}
 use Rattle.std.proofs.lemmas.List.Folds.{fold_stays}
 use Rattle.std.proofs.lemmas.List.Sums.{fold_push}
-use Rattle.pw_graph.specs.KindRanges.{IsGain}
+use Rattle.pw_lists.specs.Samples.{IsGain}
 use Rattle.control_sequence.specs.declared.points.Point.{Point}
 use Rattle.graph_script.specs.Lexical.{words_of}
 use Rattle.pod_text.specs.GainList.{meaning_of, last_frame, added, with_line}

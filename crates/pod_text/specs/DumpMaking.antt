@@ -1,7 +1,7 @@
 -- The bytes that are made of the text of a dump: the one spelling of the value whose dump it is,
 -- or why there are none, unless memory runs out. Source: this project's own.
 use Rattle.std.specs.Prelude.{◌≡◌, ℕ, List, Result, Ok, Err}
-use Rattle.pw_graph.specs.Limits.{depth_limit}
+use Rattle.pw_lists.specs.Limits.{depth_limit}
 use Rattle.pod_codec.specs.declared.pod.Pod.{Pod}
 use Rattle.pod_codec.specs.DumpText.{dump_text_of}
 use Rattle.dump_reading.specs.Sayable.{IsSayable}

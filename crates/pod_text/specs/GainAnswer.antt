@@ -1,7 +1,7 @@
 -- What the reader of a list of gains answers: its points or its first line at fault, unless
 -- memory runs out. Source: this project's own.
 use Rattle.std.specs.Prelude.{◌≡◌, ◌≤◌, ℕ, List, All, Result, Ok, Err}
-use Rattle.pw_graph.specs.KindRanges.{IsGain}
+use Rattle.pw_lists.specs.Samples.{IsGain}
 use Rattle.control_sequence.specs.Automation.{ArePoints}
 use Rattle.pod_text.specs.GainList.{last_frame}
 use Rattle.control_sequence.specs.declared.points.Point.{Point}

@@ -1,6 +1,6 @@
 //! Gains in decibels.
 ghost use Rattle.std.specs.Prelude.{◌≡◌, ◌<◌, IfSome, option_map, pos, slice_index, unsigned_abs};
-ghost use Rattle.pw_graph.specs.KindRanges.{IsGain};
+ghost use Rattle.pw_lists.specs.Samples.{IsGain};
 ghost use Rattle.pod_text.specs.Decibels.{decibel_gains, decibel_index, decibels_of, IsNearest};
 
 use graph_script::number_within;

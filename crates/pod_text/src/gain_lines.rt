@@ -1,6 +1,6 @@
 //! The lines of a list of gains.
 ghost use Rattle.std.specs.Prelude.{◌≡◌, ◌∷◌, IfOk, IfSome};
-ghost use Rattle.pw_graph.specs.KindRanges.{IsGain};
+ghost use Rattle.pw_lists.specs.Samples.{IsGain};
 ghost use Rattle.graph_script.specs.Lexical.{words_of};
 ghost use Rattle.graph_script.specs.Arguments.{number_of};
 ghost use Rattle.pod_text.specs.GainAnswer.{IsBehind};
@@ -11,7 +11,7 @@ use crate::fault::ListWhy;
 use crate::numbers::integer_within;
 use control_sequence::Point;
 use graph_script::{next_word, number_within};
-use pw_graph::GAIN_LIMIT;
+use pw_lists::GAIN_LIMIT;
 
 // A gain in 1/256, or in decibels.
 fn gain_said(word: &[u8]) -> Option<i32>

@@ -7,7 +7,7 @@ use Rattle.pod_codec.specs.declared.pod.Pod.TheVariants as pod
 use Rattle.pw_graph.specs.declared.kind.Kind.{Kind}
 use Rattle.pw_graph.specs.declared.kind.Kind.TheVariants.{Source, Square, Map, Split}
 use Rattle.pw_graph.specs.KindRanges.{IsRate, IsChannels}
-use Rattle.pw_graph.specs.Limits.{rate_limit}
+use Rattle.pw_lists.specs.Limits.{rate_limit}
 use Rattle.format_filter.specs.declared.choice.Choice.{Choice}
 use Rattle.format_filter.specs.declared.choice.Choice.TheVariants.{Only, Range}
 use Rattle.format_filter.specs.declared.choice.Wide.TheVariants as wide

@@ -1,7 +1,7 @@
 -- Sound ports: what holds of the ports that a script has made, whatever it said.
 -- Source: this project's own.
 use Rattle.std.specs.Prelude.{◌≡◌, ℕ, ◌≤◌, List, Some, None, true, length, slice_get, IfSome}
-use Rattle.pw_graph.specs.Limits.{nodes_limit}
+use Rattle.pw_lists.specs.Limits.{nodes_limit}
 use Rattle.std.specs.List.{All}
 use Rattle.pod_codec.specs.declared.pod.Pod.{Pod}
 use Rattle.pw_graph.specs.declared.kind.Kind.{Kind}

@@ -1,7 +1,7 @@
 //! What each kind of node offers at its ports, before a file narrows it.
 ghost use Rattle.std.specs.Prelude.{◌≡◌, ◌^◌, ◌<◌, ◌≤◌, IfOk};
 ghost use Rattle.pw_graph.specs.KindRanges.{IsInRange};
-ghost use Rattle.pw_graph.specs.Limits.{rate_limit};
+ghost use Rattle.pw_lists.specs.Limits.{rate_limit};
 ghost use Rattle.format_filter.specs.declared.choice.Choice.TheVariants as choice;
 ghost use Rattle.port_model.specs.Offers.{int_of, plain_field, rate_choice, channels_choice, kind_offer, new_node};
 

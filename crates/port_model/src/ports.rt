@@ -1,6 +1,6 @@
 //! The ports of all nodes.
 ghost use Rattle.std.specs.Prelude.{◌≡◌, ◌<◌, ◌≤◌, ◌↔◌, [], ◌∷◌, ◌++◌, length, IfOk, OnOk, OnErr, IsTrue, IsSome};
-ghost use Rattle.pw_graph.specs.Limits.{nodes_limit};
+ghost use Rattle.pw_lists.specs.Limits.{nodes_limit};
 ghost use Rattle.pw_graph.specs.KindRanges.{IsInRange, IsRate, IsChannels};
 ghost use Rattle.port_model.specs.PortState.{IsPort, AtPort, HasPlace, with_port, taking};
 ghost use Rattle.port_model.specs.Offers.{new_node, HasFileNumbers};

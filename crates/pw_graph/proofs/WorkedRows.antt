@@ -10,7 +10,7 @@ use Rattle.pw_graph.specs.declared.plan.Epoch.{Epoch}
 use Rattle.pw_graph.specs.declared.plan.PortForm.{PortForm}
 use Rattle.pw_graph.specs.declared.plan.PlanNode.{PlanNode}
 use Rattle.pw_graph.specs.declared.plan.Plan.{Plan}
-use Rattle.pw_graph.specs.Limits.{events_limit}
+use Rattle.pw_lists.specs.Limits.{events_limit}
 use Rattle.pw_graph.specs.EventWords.{event_word_of}
 use Rattle.pw_graph.specs.Layout.{start_words}
 use Rattle.pw_graph.specs.KindRanges.{MayHaveChannels}

@@ -2,7 +2,7 @@
 -- is read back from one.
 -- Source: this project's own numbers; no public standard has them.
 use Rattle.std.specs.Prelude.{◌≡◌, ℕ, ◌+◌, ◌*◌, ◌/◌, ◌%◌, ◌^◌, ◌<◌, ◌≤◌, ◌==◌, if◌then◌else◌}
-use Rattle.pw_graph.specs.Limits.{dummy_node}
+use Rattle.pw_lists.specs.Limits.{dummy_node}
 use Rattle.pw_graph.specs.declared.event.Event.{Event}
 use Rattle.pw_graph.specs.declared.event.Event.TheVariants.{Begin, Start, Finish, Tick, End}
 

@@ -5,7 +5,7 @@
 use Rattle.std.specs.Prelude.{ℕ, ◌*◌, ◌%◌, List, [], ◌∷◌, ◌++◌, map, length, take, zip, ℤ, neg_ℤ, nat_lt, if◌then◌else◌}
 use Rattle.pw_graph.specs.declared.kind.Kind.{Kind}
 use Rattle.pw_graph.specs.declared.kind.Kind.TheVariants.{Source, Square, Gain, Mix2, Delay, Map, Split, Sink, Meter, Dummy}
-use Rattle.pw_graph.specs.Samples.{scaled, mixed, silence, of_frames, picked}
+use Rattle.pw_lists.specs.Samples.{scaled, mixed, silence, of_frames, picked}
 
 -- what a node has received: its file, the frames for which it was active, its output's channels,
 -- its inputs' streams

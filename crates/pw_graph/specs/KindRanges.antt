@@ -1,9 +1,10 @@
 -- Ranges of kinds: the numbers of a node, and the rates and channels that its ports may have.
 -- Source: this project's script grammar and its table of nodes and ports.
-use Rattle.std.specs.Prelude.{◌≡◌, ℕ, zero, suc, ◌<◌, ◌≤◌, length, All, ℤ, pos, neg_ℤ, ◌≤ℤ◌}
+use Rattle.std.specs.Prelude.{◌≡◌, ℕ, zero, suc, ◌<◌, ◌≤◌, length, All, ℤ, pos, ◌≤ℤ◌}
 use Rattle.pw_graph.specs.declared.kind.Kind.{Kind}
 use Rattle.pw_graph.specs.declared.kind.Kind.TheVariants.{Source, Square, Gain, Mix2, Delay, Map, Split, Sink, Meter, Dummy}
-use Rattle.pw_graph.specs.Limits.{rate_limit, channels_limit, period_limit, delay_limit, amp_limit, gain_limit}
+use Rattle.pw_lists.specs.Limits.{rate_limit, channels_limit, period_limit, delay_limit, amp_limit}
+pub use Rattle.pw_lists.specs.Samples.{IsGain}
 use Rattle.pw_graph.specs.SoundShape.{IsBetween}
 
 abbrev pub IsRate : ℕ → Type 0
@@ -11,10 +12,6 @@ IsRate rate = IsBetween 1 rate_limit rate
 
 abbrev pub IsChannels : ℕ → Type 0
 IsChannels channels = IsBetween 1 channels_limit channels
-
--- a gain in 1/256
-abbrev pub IsGain : ℤ → Type 0
-IsGain g = (neg_ℤ (pos gain_limit) ≤ℤ g) × (g ≤ℤ pos gain_limit)
 
 -- the numbers of a kind are in the ranges of the script; the dummy is no node of a script
 abbrev pub IsInRange : Kind → Type 0

@@ -6,14 +6,11 @@ pub mod KindFunction
 pub mod KindPorts
 pub mod KindRanges
 pub mod Layout
-pub mod Limits
 pub mod LinkOrder
 pub mod PlanForms
 pub mod PlanFresh
 pub mod PlanSums
 pub mod Pools
-pub mod Quantities
-pub mod Samples
 pub mod SoundPlan
 pub mod SoundShape
 pub mod Words

@@ -7,7 +7,7 @@ use Rattle.pw_graph.specs.declared.ids.PortId.{PortId}
 use Rattle.pw_graph.specs.declared.plan.Epoch.{Epoch}
 use Rattle.pw_graph.specs.declared.plan.PlanNode.{PlanNode}
 use Rattle.pw_graph.specs.declared.plan.Plan.{Plan}
-use Rattle.pw_graph.specs.Limits.{dummy_node, events_limit, sink_samples_limit, block_bytes_limit}
+use Rattle.pw_lists.specs.Limits.{dummy_node, events_limit, sink_samples_limit, block_bytes_limit}
 use Rattle.pw_graph.specs.Dependencies.{nodes_of}
 use Rattle.pw_graph.specs.Pools.{IsPooledShape}
 use Rattle.pw_graph.specs.KindRanges.{IsInRange, IsRate, IsChannels, IsSinkOrMeter}

@@ -5,7 +5,7 @@ use Rattle.std.specs.List.Sorted.{IsStrictlyIncreasing}
 use Rattle.pw_graph.specs.declared.shape.Shape.{Shape}
 use Rattle.pw_graph.specs.declared.shape.ShapeNode.{ShapeNode}
 use Rattle.pw_graph.specs.declared.shape.ShapeLink.{ShapeLink}
-use Rattle.pw_graph.specs.Limits.{dummy_node, links_limit, quantum_limit, channels_limit, buffers_limit, events_limit}
+use Rattle.pw_lists.specs.Limits.{dummy_node, links_limit, quantum_limit, channels_limit, buffers_limit, events_limit}
 use Rattle.pw_graph.specs.LinkOrder.{HasOrder}
 use Rattle.pw_graph.specs.Dependencies.{nodes_of, required_of, targets_of}
 

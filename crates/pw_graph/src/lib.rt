@@ -9,7 +9,6 @@ mod event;
 mod free_node;
 mod ids;
 mod kind;
-mod limit;
 mod parts;
 mod plan;
 mod pooling;
@@ -22,11 +21,6 @@ pub use event::Event;
 pub use free_node::find_free;
 pub use ids::{DUMMY, LinkId, NODES, NodeId, PortId, is_same_port};
 pub use kind::{Kind, is_sink};
-pub use limit::{
-    ALL_WAV_BYTES_LIMIT, AMP_LIMIT, BLOCK_BYTES_LIMIT, BUFFERS_LIMIT, CHANNELS_LIMIT, DELAY_LIMIT,
-    EVENTS_LIMIT, GAIN_LIMIT, LINKS_LIMIT, PERIOD_LIMIT, POD_BYTES_LIMIT, QUANTUM_LIMIT,
-    RATE_LIMIT, SCRIPT_BYTES_LIMIT, SINK_SAMPLES_LIMIT, WAV_BYTES_LIMIT, Which,
-};
 pub use parts::{Part, Parts};
 pub use plan::{Epoch, Fresh, LineOutcome, LinkLine, Plan, PlanNode, PortForm};
 pub use pooling::{asked, is_before, pools_of};

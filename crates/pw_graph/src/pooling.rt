@@ -1,7 +1,7 @@
 //! How the pools of a shape are found.
 ghost use Rattle.std.specs.Prelude.{◌≡◌, ℕ, ◌≤◌, max, [], filter, fold, map, IfOk, length};
 ghost use Rattle.pw_graph.specs.Pools.{is_same_port, is_before, with_port, sources_of, links_from, link_ids_from, asked, blocks_of, channels_of};
-ghost use Rattle.pw_graph.specs.Limits.{links_limit};
+ghost use Rattle.pw_lists.specs.Limits.{links_limit};
 ghost use Rattle.pw_graph.specs.Pools.{words_of};
 ghost use Rattle.pw_graph.specs.Pools.{pool_of, pools_of, IsPooledShape};
 

@@ -1,6 +1,6 @@
 //! How statuses, io areas and events are packed into words. None of these calls takes memory.
 ghost use Rattle.std.specs.Prelude.{◌≡◌, ℕ, ◌<◌, ◌≤◌, ◌^◌};
-ghost use Rattle.pw_graph.specs.Limits.{dummy_node};
+ghost use Rattle.pw_lists.specs.Limits.{dummy_node};
 ghost use Rattle.pw_graph.specs.Words.{status_word_of, status_in, cycle_in, IsStatusWord, io_word_of, io_status_in, io_id_in};
 ghost use Rattle.pw_graph.specs.EventWords.{event_kind, event_node, event_cycle, event_late, event_word_of, event_in, IsEventWord};
 

@@ -4,7 +4,7 @@ use Rattle.std.proofs.Common.{get_or, drop, take, ◌-◌, ◌∙◌}
 use Rattle.std.specs.Prelude.{◌⊎◌, Some, None, Result, Ok, Err, Contains, nat_le}
 use Rattle.std.proofs.lemmas.List.{take_rest}
 use Rattle.std.proofs.lemmas.Grind.{common_steps}
-use Rattle.pw_graph.specs.declared.limit.Which.{Which}
+use Rattle.pw_lists.specs.declared.limit.Which.{Which}
 use Rattle.pw_outside.specs.Files.{Names}
 use Rattle.pw_top.specs.declared.status.Status.{Status}
 use Rattle.pw_top.specs.declared.status.Status.TheVariants as S

@@ -36,7 +36,7 @@ use Rattle.graph_plan.proofs.parts.PartLinesLemmas.{makes_none_of}
 use Rattle.graph_plan.proofs.parts.PartitionLemmas.{among_has}
 use Rattle.cycle_model.specs.Rendering.{rendered_sinks, rendered_peaks, kept_of, end_stream, is_meter}
 use Rattle.cycle_model.specs.Rendering.{peak_at as peak_of_node}
-use Rattle.pw_graph.specs.Samples.{peak_of}
+use Rattle.pw_lists.specs.Samples.{peak_of}
 use Rattle.pw_top.specs.declared.parted.Parted.{Parted}
 use Rattle.pw_top.specs.declared.loaded_script.LoadedScript.{LoadedScript}
 use Rattle.pw_top.specs.declared.work.Content.TheVariants.{Wave}

@@ -1,7 +1,7 @@
 -- ONE ANSWER of `groups`: two answers of a script that are allowed, neither out of memory, are the same: its parts are one.
 use Rattle.std.proofs.Common.{◌≡◌, ℕ, List, [], sym, ap, ◌∙◌}
 use Rattle.std.specs.Prelude.{Ok, Err}
-use Rattle.pw_graph.specs.declared.limit.Which.{Which}
+use Rattle.pw_lists.specs.declared.limit.Which.{Which}
 use Rattle.pw_graph.specs.declared.parts.Parts.{Parts}
 use Rattle.pw_outside.specs.Files.{Names}
 use Rattle.wav_files.specs.declared.wav.WavIn.{WavIn}

@@ -3,7 +3,7 @@
 use Rattle.std.proofs.Common.{◌≡◌, ℕ, ◌<◌, ◌≤◌, Bool, List, [], length, refl, sym, ap, subst, ◌∙◌, arith}
 use Rattle.std.specs.Prelude.{Result, Ok, Err}
 use Rattle.std.proofs.lemmas.List.Elements.{All-nil}
-use Rattle.pw_graph.specs.declared.limit.Which.{Which}
+use Rattle.pw_lists.specs.declared.limit.Which.{Which}
 use Rattle.pw_graph.specs.declared.plan.Plan.{Plan}
 use Rattle.pw_outside.specs.Files.{Names}
 use Rattle.wav_files.specs.declared.wav.WavIn.{WavIn}

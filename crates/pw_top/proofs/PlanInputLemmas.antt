@@ -9,7 +9,7 @@ use Rattle.pw_graph.specs.declared.ids.PortId.{PortId}
 use Rattle.pw_graph.specs.declared.kind.Kind.{Kind}
 use Rattle.pw_graph.specs.declared.kind.Kind.TheVariants as K
 use Rattle.pw_graph.specs.KindRanges.{IsInRange}
-use Rattle.pw_graph.specs.Limits.{all_wav_bytes_limit}
+use Rattle.pw_lists.specs.Limits.{all_wav_bytes_limit}
 use Rattle.format_filter.specs.declared.format.Format.{Format}
 use Rattle.format_filter.specs.declared.common.Filtered.TheVariants.{Common}
 use Rattle.format_filter.specs.CommonFormat.{Filters}

@@ -1,7 +1,7 @@
 -- The expected answer of a command: the steps outside that it makes where nothing fails.
 -- Source: this project's own.
 use Rattle.std.specs.Prelude.{ℕ, List, [], ◌++◌, length, Option, Some, None, Result, Ok, Err, nat_le, if◌then◌else◌}
-use Rattle.pw_graph.specs.declared.limit.Which.{Which}
+use Rattle.pw_lists.specs.declared.limit.Which.{Which}
 use Rattle.pw_outside.specs.Files.{Names}
 use Rattle.pw_top.specs.declared.status.Status.{Status}
 use Rattle.pw_top.specs.declared.status.Status.TheVariants as S

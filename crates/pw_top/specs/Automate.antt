@@ -3,8 +3,8 @@
 -- PipeWire's documentation, "SPA POD".
 use Rattle.std.specs.Prelude.{◌≡◌, ℕ, ◌/◌, List, [], ◌∷◌, ◌++◌, length, codes, Result, Ok, Err}
 use Rattle.pw_outside.specs.Files.{Names}
-use Rattle.pw_graph.specs.Limits.{wav_bytes_limit}
-use Rattle.pw_graph.specs.declared.limit.Which.TheVariants as W
+use Rattle.pw_lists.specs.Limits.{wav_bytes_limit}
+use Rattle.pw_lists.specs.declared.limit.Which.TheVariants as W
 use Rattle.pod_codec.specs.declared.pod.Pod.{Pod}
 use Rattle.pod_codec.specs.declared.pod.Pod.TheViews.{out-Pod}
 use Rattle.control_sequence.specs.declared.points.Point.{Point}

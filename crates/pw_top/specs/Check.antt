@@ -2,7 +2,7 @@
 -- Source: this project's.
 use Rattle.std.specs.Prelude.{◌≡◌, ℕ, List, [], ◌∷◌, map, codes, decimal, Result, Ok}
 use Rattle.pw_outside.specs.Files.{Names}
-use Rattle.pw_graph.specs.declared.limit.Which.TheVariants as W
+use Rattle.pw_lists.specs.declared.limit.Which.TheVariants as W
 use Rattle.pw_graph.specs.declared.plan.Plan.{Plan}
 use Rattle.pw_graph.specs.declared.shape.Shape.{Shape}
 use Rattle.cycle_trace.specs.Words.{line}

@@ -2,7 +2,7 @@
 -- Source: this project's own; the value is a POD, PipeWire's documentation, "SPA POD".
 use Rattle.std.specs.Prelude.{◌≡◌, ℕ, List, [], Ok}
 use Rattle.pw_outside.specs.Files.{Names}
-use Rattle.pw_graph.specs.declared.limit.Which.TheVariants as W
+use Rattle.pw_lists.specs.declared.limit.Which.TheVariants as W
 use Rattle.pod_codec.specs.declared.pod.Pod.{Pod}
 use Rattle.pod_codec.specs.DumpText.{dump_text_of}
 use Rattle.pw_top.specs.declared.work.Work.{Work}

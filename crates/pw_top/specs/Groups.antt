@@ -3,7 +3,7 @@
 -- project's.
 use Rattle.std.specs.Prelude.{◌≡◌, ℕ, ◌<◌, ◌≤◌, List, length, map, All, Result, Ok, Err}
 use Rattle.pw_outside.specs.Files.{Names}
-use Rattle.pw_graph.specs.Limits.{nodes_limit}
+use Rattle.pw_lists.specs.Limits.{nodes_limit}
 use Rattle.pw_graph.specs.SoundPlan.{IsSoundPlan}
 use Rattle.pw_graph.specs.declared.parts.Parts.{Parts}
 use Rattle.wav_files.specs.declared.outcome.Outcome.{Outcome}

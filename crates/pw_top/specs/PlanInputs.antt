@@ -5,7 +5,7 @@ use Rattle.std.specs.Prelude.{◌≡◌, ℕ, ◌+◌, ◌<◌, ◌≤◌, List,
 use Rattle.pw_graph.specs.declared.kind.Kind.{Kind}
 use Rattle.pw_graph.specs.declared.kind.Kind.TheVariants as K
 use Rattle.pw_graph.specs.KindRanges.{IsInRange}
-use Rattle.pw_graph.specs.Limits.{all_wav_bytes_limit, nodes_limit}
+use Rattle.pw_lists.specs.Limits.{all_wav_bytes_limit, nodes_limit}
 use Rattle.wav_files.specs.declared.wav.Wav.{Wav}
 use Rattle.graph_script.specs.declared.command.Command.{Command}
 use Rattle.graph_script.specs.declared.command.Command.TheVariants as C

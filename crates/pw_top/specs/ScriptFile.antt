@@ -2,8 +2,8 @@
 -- Source: this project's.
 use Rattle.std.specs.Prelude.{◌≡◌, ℕ, List, Ok}
 use Rattle.pw_outside.specs.Files.{Names}
-use Rattle.pw_graph.specs.Limits.{script_bytes_limit}
-use Rattle.pw_graph.specs.declared.limit.Which.TheVariants as W
+use Rattle.pw_lists.specs.Limits.{script_bytes_limit}
+use Rattle.pw_lists.specs.declared.limit.Which.TheVariants as W
 use Rattle.graph_script.specs.declared.script.Script.{Script}
 use Rattle.graph_script.specs.Grammar.{script_of}
 use Rattle.graph_script.specs.Kinds.{HasKinds}

@@ -1,7 +1,7 @@
 -- The line of a status: its word, its place and its numbers, plain decimal, words parted by one
 -- space. Source: this project's own; docs/FORMATS.md.
 use Rattle.std.specs.Prelude.{ℕ, ◌==◌, Bool, true, false, not, List, [], ◌∷◌, ◌++◌, codes, decimal}
-use Rattle.pw_graph.specs.Quantities.{which_number}
+use Rattle.pw_lists.specs.Quantities.{which_number}
 use Rattle.graph_script.specs.declared.fault.ScriptWhy.{ScriptWhy}
 use Rattle.graph_script.specs.declared.fault.ScriptWhy.TheVariants.{TooMany}
 use Rattle.graph_script.specs.Faults.{why_number}

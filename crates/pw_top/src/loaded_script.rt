@@ -2,7 +2,7 @@
 #![tactic(auto, using(crate::proofs::AllowedLemmas::parts))]
 
 ghost use Rattle.std.specs.Prelude.{◌≡◌, ◌≤◌, length, IfOk};
-ghost use Rattle.pw_graph.specs.Limits.{script_bytes_limit};
+ghost use Rattle.pw_lists.specs.Limits.{script_bytes_limit};
 ghost use Rattle.graph_script.specs.Grammar.{script_of};
 ghost use Rattle.graph_script.specs.Kinds.{HasKinds};
 ghost use Rattle.graph_script.specs.Order.{HasOrder};
@@ -18,7 +18,7 @@ use crate::loading::load_step;
 use crate::script_loads::load_all;
 use crate::status::Status;
 use graph_script::{Script, ScriptFault, parse};
-use pw_graph::{SCRIPT_BYTES_LIMIT, Which};
+use pw_lists::{SCRIPT_BYTES_LIMIT, Which};
 use pw_lists::{Items, Text};
 use pw_outside::Files;
 use std::alloc::Global;

@@ -4,7 +4,7 @@
 ghost use Rattle.std.specs.Prelude.{◌≡◌, ◌≤◌, ◌<◌, ◌-◌, length, Ok, IfOk, IfSome, Some, None, option_map};
 ghost use Rattle.pw_graph.specs.declared.kind.Kind.TheVariants as K;
 ghost use Rattle.pw_graph.specs.KindRanges.{IsInRange};
-ghost use Rattle.pw_graph.specs.Limits.{all_wav_bytes_limit, nodes_limit};
+ghost use Rattle.pw_lists.specs.Limits.{all_wav_bytes_limit, nodes_limit};
 ghost use Rattle.format_filter.specs.CommonFormat.{IsSoundFormat};
 ghost use Rattle.wav_files.specs.WavWriting.{IsWave};
 ghost use Rattle.graph_script.specs.Kinds.{made_by};
@@ -27,7 +27,8 @@ use crate::wave_file::wave_step;
 use format_filter::Format;
 use graph_script::{Command, Line, kind_made};
 use port_model::Narrowed;
-use pw_graph::{ALL_WAV_BYTES_LIMIT, Kind, PortId, WAV_BYTES_LIMIT, Which};
+use pw_graph::{Kind, PortId};
+use pw_lists::{ALL_WAV_BYTES_LIMIT, WAV_BYTES_LIMIT, Which};
 use pw_lists::{Items, Memory, Text};
 use pw_outside::Files;
 use std::alloc::Global;

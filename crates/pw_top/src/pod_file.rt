@@ -7,7 +7,7 @@ ghost use Rattle.pw_top.specs.working.Ending.{Ends, CommandCause};
 
 use crate::status::{PodWhy, Status};
 use pod_codec::{Pod, PodFault, read_pod};
-use pw_graph::POD_BYTES_LIMIT;
+use pw_lists::POD_BYTES_LIMIT;
 use std::alloc::Global;
 
 /// The bytes of a file with one POD, at most.

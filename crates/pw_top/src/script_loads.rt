@@ -2,7 +2,7 @@
 #![tactic(auto, using(crate::proofs::AllowedLemmas::parts))]
 
 ghost use Rattle.std.specs.Prelude.{◌≡◌, ◌≤◌, length};
-ghost use Rattle.pw_graph.specs.Limits.{nodes_limit};
+ghost use Rattle.pw_lists.specs.Limits.{nodes_limit};
 ghost use Rattle.graph_script.specs.Making.{NamesMade};
 ghost use Rattle.graph_lines.specs.Start.{kinds_of};
 ghost use Rattle.graph_plan.specs.Conditions.{AreLinesOf};

@@ -2,7 +2,7 @@
 ghost use Rattle.std.specs.Prelude.{◌≡◌};
 
 use graph_script::ScriptWhy;
-use pw_graph::Which;
+use pw_lists::Which;
 use wav_files::WavFault;
 
 /// Why a POD is refused, or what it says does not fit. Offsets count bytes of the file; a key is a

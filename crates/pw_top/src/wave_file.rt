@@ -2,7 +2,7 @@
 #![tactic(auto, using(crate::proofs::AllowedLemmas::parts))]
 
 ghost use Rattle.std.specs.Prelude.{◌≡◌, ◌≤◌, length, IfOk};
-ghost use Rattle.pw_graph.specs.Limits.{wav_bytes_limit};
+ghost use Rattle.pw_lists.specs.Limits.{wav_bytes_limit};
 ghost use Rattle.wav_files.specs.WavReading.{wav_of};
 ghost use Rattle.wav_files.specs.WavWriting.{IsWave};
 ghost use Rattle.pw_top.specs.Allowed.{Reads};

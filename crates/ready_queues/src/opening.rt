@@ -5,7 +5,7 @@ ghost use Rattle.crossbeam_utils.specs.Token.{parker_view};
 ghost use Rattle.ready_queues.specs.declared.way.Way.{Way};
 ghost use Rattle.ready_queues.specs.Hands.{hand};
 ghost use Rattle.ready_queues.specs.Lanes.{loops_limit, parker_of, unparks};
-ghost use Rattle.pw_graph.specs.Limits.{dummy_node};
+ghost use Rattle.pw_lists.specs.Limits.{dummy_node};
 ghost use Rattle.ready_queues.specs.Opening.{IsFreshEnd, AreFreshEnds, IsBareWay, AreBare, IsNewWay};
 ghost use Rattle.ready_queues.specs.ParkingRule.{woken};
 

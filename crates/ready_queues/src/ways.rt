@@ -1,7 +1,7 @@
 //! What all threads have of the queues and parkers.
 ghost use Rattle.std.specs.Prelude.{◌≡◌, ◌≤◌, length, All};
 ghost use Rattle.crossbeam_queue.specs.Passes.{ruled_capacity};
-ghost use Rattle.pw_graph.specs.Limits.{dummy_node};
+ghost use Rattle.pw_lists.specs.Limits.{dummy_node};
 ghost use Rattle.ready_queues.specs.Lanes.{loops_limit};
 
 use crate::call::Call;

@@ -14,7 +14,7 @@ use Rattle.std.proofs.lemmas.List.{map-append, get_or_append_left}
 use Rattle.std.proofs.lemmas.Nat.{div-mul-add, mod-mul-add}
 use Rattle.std.proofs.lemmas.List.FromFn.{length-map-range_with_len}
 use Rattle.std.proofs.lemmas.Grind.{common_steps}
-use Rattle.pw_graph.specs.Samples.{of_frames, picked, sample_at}
+use Rattle.pw_lists.specs.Samples.{of_frames, picked, sample_at}
 
 -- the places up to a sum, in two parts
 range_joined : (a n m : ℕ) → range_with_len a (n + m) ≡ range_with_len a n ++ range_with_len (a + n) m

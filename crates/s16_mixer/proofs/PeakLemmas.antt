@@ -1,7 +1,7 @@
 -- Peaks: of rows one after the other, and of tops in several places.
 use Rattle.std.proofs.Common.{◌≡◌, ℕ, ℤ, max, ◌∙◌, List, [], ◌∷◌, ◌++◌, length, map, fold, zip, refl, sym, ap, ap₂, arith}
 use Rattle.std.specs.Prelude.{unsigned_abs}
-use Rattle.pw_graph.specs.Samples.{peak_of}
+use Rattle.pw_lists.specs.Samples.{peak_of}
 
 pub fold_max : (a : ℕ) (xs : List ℕ) → fold max a xs ≡ max a (fold max 0 xs)
 fold_max a [] = omega arith

@@ -2,7 +2,7 @@
 use Rattle.std.proofs.Common.{◌≡◌, ℕ, ℤ, ◌+◌, ◌+ℤ◌, List, [], ◌∷◌, ◌++◌, All, take, drop, sym, ap, ◌∙◌, arith, take-add}
 use Rattle.std.proofs.lemmas.Int.{ints}
 use Rattle.std.proofs.lemmas.List.Elements.{All-cons, All-head, All-tail, All-nil}
-use Rattle.pw_graph.specs.Samples.{summed}
+use Rattle.pw_lists.specs.Samples.{summed}
 use Rattle.s16_mixer.specs.Ranges.{IsWithin}
 
 -- a sum of one sample more

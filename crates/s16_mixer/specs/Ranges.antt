@@ -2,7 +2,7 @@
 -- -32767 to 32767.
 -- Source: SPA_AUDIO_FORMAT_S16_LE; the ranges are this project's.
 use Rattle.std.specs.Prelude.{ℕ, ℤ, pos, neg_ℤ, ◌*◌, ◌≤ℤ◌}
-pub use Rattle.pw_graph.specs.KindRanges.{IsGain}
+pub use Rattle.pw_lists.specs.Samples.{IsGain}
 
 -- a sum of at most 255 samples, to which one more can be added
 abbrev pub HasRoom : ℤ → Type 0

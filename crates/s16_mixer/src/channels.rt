@@ -1,6 +1,6 @@
 //! Channels of interleaved samples, picked a lane at a time.
 ghost use Rattle.std.specs.Prelude.{◌≡◌, ◌*◌, ◌/◌, ◌%◌, ◌<◌, length, All, [], ◌∷◌};
-ghost use Rattle.pw_graph.specs.Samples.{picked};
+ghost use Rattle.pw_lists.specs.Samples.{picked};
 
 use crate::plain;
 

@@ -1,6 +1,6 @@
 //! Sums limited to a sample's range, a lane at a time.
 ghost use Rattle.std.specs.Prelude.{◌≡◌, length, map};
-ghost use Rattle.pw_graph.specs.Samples.{clamped};
+ghost use Rattle.pw_lists.specs.Samples.{clamped};
 
 use crate::plain;
 

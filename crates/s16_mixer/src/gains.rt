@@ -1,6 +1,6 @@
 //! Samples by gains, a lane at a time.
 ghost use Rattle.std.specs.Prelude.{◌≡◌, length, map, zip};
-ghost use Rattle.pw_graph.specs.Samples.{scaled, mixed};
+ghost use Rattle.pw_lists.specs.Samples.{scaled, mixed};
 ghost use Rattle.s16_mixer.specs.Ranges.{IsGain};
 
 use crate::plain;

@@ -1,6 +1,6 @@
 //! The greatest absolute value of samples, a lane at a time.
 ghost use Rattle.std.specs.Prelude.{◌≡◌, ◌≤◌, max, length, map, zip, All, unsigned_abs};
-ghost use Rattle.pw_graph.specs.Samples.{peak_of};
+ghost use Rattle.pw_lists.specs.Samples.{peak_of};
 
 use crate::plain;
 

@@ -1,6 +1,6 @@
 //! Samples added to sums, a lane at a time.
 ghost use Rattle.std.specs.Prelude.{◌≡◌, ℕ, ◌+◌, length, All};
-ghost use Rattle.pw_graph.specs.Samples.{summed};
+ghost use Rattle.pw_lists.specs.Samples.{summed};
 ghost use Rattle.s16_mixer.specs.Ranges.{HasRoom, IsWithin};
 
 use crate::plain;

@@ -1,7 +1,7 @@
 //! The line of a number.
 ghost use Rattle.std.specs.Prelude.{◌≡◌, ◌≤◌, ◌++◌, length, codes, decimal, All, IfOk, OnOk};
 ghost use Rattle.std.specs.Fmt.{signed_decimal};
-ghost use Rattle.pw_graph.specs.Limits.{sink_samples_limit};
+ghost use Rattle.pw_lists.specs.Limits.{sink_samples_limit};
 ghost use Rattle.pw_graph.specs.SoundPlan.{IsSoundPlan};
 ghost use Rattle.wav_files.specs.WavWriting.{IsWave};
 ghost use Rattle.cycle_model.specs.Epochs.{all_cycles};

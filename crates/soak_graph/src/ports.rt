@@ -1,7 +1,7 @@
 //! The ports of the nodes of the graph.
 ghost use Rattle.std.specs.Prelude.{◌≡◌, ◌≤◌, ◌+◌, ◌++◌, length, IfOk, OnOk};
-ghost use Rattle.pw_graph.specs.Limits.{nodes_limit};
-ghost use Rattle.pw_graph.specs.KindRanges.{IsGain};
+ghost use Rattle.pw_lists.specs.Limits.{nodes_limit};
+ghost use Rattle.pw_lists.specs.Samples.{IsGain};
 ghost use Rattle.soak_graph.specs.working.Drawing.{HasDrawn};
 ghost use Rattle.soak_graph.specs.SoakPorts.{chain_nodes, soak_ports};
 

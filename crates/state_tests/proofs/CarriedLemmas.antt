@@ -11,7 +11,7 @@ use Rattle.pw_graph.specs.KindPorts.{input_count}
 use Rattle.pw_graph.specs.PlanForms.{kind_at}
 use Rattle.pw_graph.specs.PlanFresh.{IsEpoch}
 use Rattle.pw_graph.specs.Pools.{is_same_port}
-use Rattle.pw_graph.specs.Samples.{clamped, silence, summed}
+use Rattle.pw_lists.specs.Samples.{clamped, silence, summed}
 use Rattle.pw_graph.specs.SoundPlan.{IsSoundPlan}
 use Rattle.cycle_model.specs.Epochs.{epoch_at, listed, channels_of}
 use Rattle.cycle_model.specs.Cycle.{Outputs, outputs, brought, input_of}

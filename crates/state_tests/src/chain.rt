@@ -5,7 +5,7 @@ ghost use Rattle.pw_graph.specs.KindPorts.{input_count, output_count};
 ghost use Rattle.pw_graph.specs.PlanForms.{kind_at};
 ghost use Rattle.pw_graph.specs.PlanFresh.{IsEpoch};
 ghost use Rattle.pw_graph.specs.Pools.{is_same_port};
-ghost use Rattle.pw_graph.specs.Samples.{clamped, silence, summed};
+ghost use Rattle.pw_lists.specs.Samples.{clamped, silence, summed};
 ghost use Rattle.cycle_model.specs.Epochs.{channels_of};
 ghost use Rattle.node_progress.specs.NodeStates.{IsNodeState, IsOutputRow};
 ghost use Rattle.node_progress.specs.Standing.{comes_in, goes_out, Gives, works_in};

@@ -1,6 +1,6 @@
 //! Rows of samples through each kernel, and each kernel beside its plain twin.
 ghost use Rattle.std.specs.Prelude.{◌≤◌};
-ghost use Rattle.pw_graph.specs.KindRanges.{IsGain};
+ghost use Rattle.pw_lists.specs.Samples.{IsGain};
 
 use pw_lists::{Items, Memory};
 use s16_mixer::{clamp_out, gain, map_channels, mix_into, mix2, peak, plain, split};

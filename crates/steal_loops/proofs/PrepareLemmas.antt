@@ -5,7 +5,7 @@ use Rattle.std.proofs.lemmas.Bool.{cases_lt}
 use Rattle.std.proofs.lemmas.List.{get_or_append_left, get_or_push, get_or-replicate, length-replicate}
 use Rattle.std.proofs.lemmas.Option.{slice_get_within, slice_get-get_or, get_or_from_slice_get}
 use Rattle.pw_graph.specs.declared.plan.Plan.{Plan}
-use Rattle.pw_graph.specs.Limits.{nodes_limit}
+use Rattle.pw_lists.specs.Limits.{nodes_limit}
 use Rattle.pw_graph.specs.SoundPlan.{IsSoundPlan}
 use Rattle.wav_files.specs.declared.wav.WavIn.{WavIn}
 use Rattle.board_rule.specs.declared.board.Board.{Board}

@@ -1,7 +1,7 @@
 //! The order of a shape's nodes, as sets of their numbers.
 ghost use Rattle.std.specs.Prelude.{◌≡◌, ℕ, ◌<◌, ◌≤◌, IsTrue, All, Contains, map, IfOk};
 ghost use Rattle.std.specs.List.{list_any};
-ghost use Rattle.pw_graph.specs.Limits.{dummy_node};
+ghost use Rattle.pw_lists.specs.Limits.{dummy_node};
 ghost use Rattle.pw_graph.specs.Dependencies.{joins, Precedes};
 ghost use Rattle.pw_graph.specs.LinkOrder.{IsWithinNodes};
 ghost use Rattle.pw_graph.specs.SoundShape.{IsSoundShape};

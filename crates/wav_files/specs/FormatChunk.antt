@@ -3,7 +3,7 @@
 use Rattle.std.specs.Prelude.{ℕ, ◌*◌, ◌-◌, ◌%◌, ◌≤◌, ◌==◌, ◌&&◌, ◌||◌, not, Bool, nat_lt, nat_le, if◌then◌else◌, List, []}
 use Rattle.std.specs.Prelude.{◌∷◌, length, take, drop, bytes_eq, Result, Ok, Err}
 use Rattle.byteorder.specs.Endian.{little_number}
-use Rattle.pw_graph.specs.Limits.{rate_limit, channels_limit}
+use Rattle.pw_lists.specs.Limits.{rate_limit, channels_limit}
 use Rattle.wav_files.specs.declared.form.Form.{Form}
 use Rattle.wav_files.specs.declared.fault.WavFault.{WavFault}
 use Rattle.wav_files.specs.declared.fault.WavFault.TheVariants as F

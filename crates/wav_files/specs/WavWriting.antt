@@ -2,7 +2,7 @@
 use Rattle.std.specs.Prelude.{◌≡◌, ℕ, ◌+◌, ◌*◌, ◌%◌, ◌≤◌, List, ◌++◌, length, codes, flat_map, ℤ}
 use Rattle.std.specs.Int.{w16, cast_unsigned}
 use Rattle.byteorder.specs.Endian.{little_bytes}
-use Rattle.pw_graph.specs.Limits.{rate_limit, channels_limit, sink_samples_limit}
+use Rattle.pw_lists.specs.Limits.{rate_limit, channels_limit, sink_samples_limit}
 use Rattle.wav_files.specs.declared.wav.Wav.{Wav}
 
 -- a number of 16 bits

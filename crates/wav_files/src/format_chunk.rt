@@ -8,7 +8,7 @@ use crate::chunks::{body_of, is_text, is_whole, size_of};
 use crate::fault::WavFault;
 use crate::form::Form;
 use byteorder::{ByteOrder, LittleEndian};
-use pw_graph::{CHANNELS_LIMIT, RATE_LIMIT};
+use pw_lists::{CHANNELS_LIMIT, RATE_LIMIT};
 
 /// The tag of plain PCM.
 const PLAIN: u16 = 1;

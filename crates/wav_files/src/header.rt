@@ -1,6 +1,6 @@
 //! The 44 bytes before the samples of a plain file.
 ghost use Rattle.std.specs.Prelude.{◌≡◌, ◌+◌, ◌^◌, ◌<◌, ◌≤◌};
-ghost use Rattle.pw_graph.specs.Limits.{channels_limit, rate_limit};
+ghost use Rattle.pw_lists.specs.Limits.{channels_limit, rate_limit};
 ghost use Rattle.wav_files.specs.WavWriting.{wav_header};
 
 /// How many bytes are before the samples of a plain file.

@@ -1,6 +1,6 @@
 //! The wave of a file. RIFF WAVE, PCM of 16 bits.
 ghost use Rattle.std.specs.Prelude.{◌≡◌, ◌+◌, ◌*◌, ◌%◌, ◌≤◌, length, IfOk, IfSome, MatchResult};
-ghost use Rattle.pw_graph.specs.Limits.{wav_bytes_limit};
+ghost use Rattle.pw_lists.specs.Limits.{wav_bytes_limit};
 ghost use Rattle.wav_files.specs.Chunks.{chunk_at, chunks_of};
 ghost use Rattle.wav_files.specs.FormatChunk.{IsForm};
 ghost use Rattle.wav_files.specs.WavReading.{IsReading, data_of, form_after, parts_from, parts_of, passed, samples_in, wav_of};

@@ -2,7 +2,7 @@
 -- Source: this project's own.
 use Rattle.std.specs.Prelude.{ℕ, ◌^◌, ◌≤◌, List, [], ◌∷◌, cond, eqb, All}
 use Rattle.std.specs.Int.Bits.{bit_or}
-use Rattle.pw_graph.specs.Limits.{dummy_node}
+use Rattle.pw_lists.specs.Limits.{dummy_node}
 use Rattle.board_rule.specs.declared.view.Found.{Found}
 
 -- what is found is of nodes: their numbers have bits in such a set

@@ -1,7 +1,7 @@
 -- The end of a board: what its seat must have done, and the events that its words hold.
 -- Source: this project's own.
 use Rattle.std.specs.Prelude.{◌≡◌, ℕ, suc, ◌+◌, ◌-◌, ◌^◌, ◌<◌, ◌≤◌, true, List, [], length, All, slice_get, slice_index, Some}
-use Rattle.pw_graph.specs.Limits.{dummy_node}
+use Rattle.pw_lists.specs.Limits.{dummy_node}
 use Rattle.pw_graph.specs.declared.event.Event.{Event}
 use Rattle.pw_graph.specs.declared.event.Event.TheVariants.{Tick}
 use Rattle.pw_graph.specs.EventWords.{event_cycle, event_node, event_word_of}

@@ -3,7 +3,7 @@
 -- Source: PipeWire's documentation, "Graph Scheduling": a node runs once a cycle, after what it
 -- depends on; tickets and events are this project's.
 use Rattle.std.specs.Prelude.{◌≡◌, ℕ, ◌-◌, ◌<◌, ◌≤◌, ◌⊎◌, true, cond, List, length, slice_get, Some}
-use Rattle.pw_graph.specs.Limits.{dummy_node}
+use Rattle.pw_lists.specs.Limits.{dummy_node}
 use Rattle.std.specs.Prelude.{count_by, All, Contains, IsBitSet}
 use Rattle.pw_graph.specs.declared.event.Event.{Event}
 use Rattle.pw_graph.specs.declared.event.Event.TheVariants.{Start, Finish, Tick}

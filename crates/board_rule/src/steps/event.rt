@@ -1,7 +1,7 @@
 //! The atomic steps on tickets, events and late sets. Nodes are indexes; `C` is what the step gives
 //! its seat to know.
 ghost use Rattle.board_rule.specs.OnBoard.{IsOn, layout};
-ghost use Rattle.pw_graph.specs.Limits.{dummy_node};
+ghost use Rattle.pw_lists.specs.Limits.{dummy_node};
 ghost use Rattle.std.specs.Prelude.{◌≡◌, ℕ, ◌+◌, ◌<◌, ◌≤◌};
 ghost use Rattle.pw_graph.specs.Layout.{event_count};
 ghost use Rattle.pw_graph.specs.EventWords.{event_node, event_word_of};

@@ -8,7 +8,7 @@ use Rattle.pw_graph.specs.declared.ids.PortId.{PortId}
 use Rattle.pw_graph.specs.declared.kind.Kind.{Kind}
 use Rattle.pw_graph.specs.declared.plan.Epoch.{Epoch}
 use Rattle.pw_graph.specs.declared.plan.PlanNode.{PlanNode}
-use Rattle.pw_graph.specs.Samples.{peak_of}
+use Rattle.pw_lists.specs.Samples.{peak_of}
 use Rattle.pw_graph.specs.KindFunction.{kind_output}
 use Rattle.pw_graph.specs.KindPorts.{input_count, output_count}
 use Rattle.pw_graph.specs.PlanSums.{is_sink}

@@ -5,7 +5,7 @@ use Rattle.std.specs.Prelude.{option_map, unwrap_or, ℤ, if◌then◌else◌}
 use Rattle.pw_graph.specs.declared.ids.PortId.{PortId}
 use Rattle.pw_graph.specs.declared.shape.ShapeLink.{ShapeLink}
 use Rattle.pw_graph.specs.declared.plan.Epoch.{Epoch}
-use Rattle.pw_graph.specs.Samples.{clamped, silence, summed}
+use Rattle.pw_lists.specs.Samples.{clamped, silence, summed}
 use Rattle.pw_graph.specs.Pools.{is_same_port}
 use Rattle.cycle_model.specs.declared.received.Given.{Given}
 use Rattle.cycle_model.specs.Epochs.{channels_of}

@@ -9,7 +9,7 @@ use Rattle.pw_graph.specs.declared.plan.Plan.{Plan}
 use Rattle.pw_graph.specs.declared.plan.PlanNode.{PlanNode}
 use Rattle.pw_graph.specs.declared.plan.PortForm.{PortForm}
 use Rattle.pw_graph.specs.declared.kind.Kind.TheVariants.{Sink}
-use Rattle.pw_graph.specs.Limits.{dummy_node}
+use Rattle.pw_lists.specs.Limits.{dummy_node}
 use Rattle.pw_graph.specs.Dependencies.{nodes_of}
 use Rattle.pw_graph.specs.KindPorts.{port_count}
 use Rattle.pw_graph.specs.KindRanges.{IsSinkOrMeter}

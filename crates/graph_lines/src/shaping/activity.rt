@@ -1,6 +1,6 @@
 //! The links that are live, and the nodes that are active by them.
 ghost use Rattle.std.specs.Prelude.{◌≡◌, ◌⊎◌, ℕ, ◌<◌, ◌↔◌, true, false, All, filter, length, replicate, IfOk, slice_index_or, slice_set};
-ghost use Rattle.pw_graph.specs.Limits.{dummy_node};
+ghost use Rattle.pw_lists.specs.Limits.{dummy_node};
 ghost use Rattle.graph_lines.specs.Activity.{standing, is_live, live_wires, AreJoined, HasWire, IsActive};
 ghost use Rattle.graph_lines.specs.Searching.{is_in, IsWithin, IsClosed, TakesIn, Spreads, HasMore};
 

@@ -1,6 +1,6 @@
 //! The node that drives.
 ghost use Rattle.std.specs.Prelude.{◌≡◌, ◌+◌, ◌<◌, ◌≤◌, length, slice_index_or};
-ghost use Rattle.pw_graph.specs.Limits.{nodes_limit};
+ghost use Rattle.pw_lists.specs.Limits.{nodes_limit};
 ghost use Rattle.pw_graph.specs.declared.kind.Kind.TheVariants.{Dummy};
 ghost use Rattle.graph_lines.specs.Activity.{may_drive, candidacy, IsDriver};
 ghost use Rattle.graph_lines.specs.Searching.{IsBest};

@@ -15,7 +15,7 @@ use Rattle.pw_graph.specs.declared.plan.PortForm.{PortForm}
 use Rattle.pw_graph.specs.declared.shape.Shape.{Shape}
 use Rattle.pw_graph.specs.declared.shape.ShapeLink.{ShapeLink}
 use Rattle.pw_graph.specs.declared.shape.ShapeNode.{ShapeNode}
-use Rattle.pw_graph.specs.declared.limit.Which.{Which}
+use Rattle.pw_lists.specs.declared.limit.Which.{Which}
 use Rattle.pw_graph.specs.Dependencies.{nodes_of, joins}
 use Rattle.pw_graph.specs.Pools.{is_before}
 use Rattle.pw_graph.specs.SoundShape.{IsCounted}

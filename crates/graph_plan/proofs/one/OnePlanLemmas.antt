@@ -2,7 +2,7 @@
 use Rattle.std.proofs.Common.{◌≡◌, inl, inr, ℕ, List, refl, sym, ap, ◌∙◌, subst, arith}
 use Rattle.std.specs.Prelude.{Result, Ok, Err}
 use Rattle.pw_graph.specs.declared.kind.Kind.{Kind}
-use Rattle.pw_graph.specs.declared.limit.Which.{Which}
+use Rattle.pw_lists.specs.declared.limit.Which.{Which}
 use Rattle.pw_graph.specs.declared.plan.Epoch.{Epoch}
 use Rattle.pw_graph.specs.declared.plan.LinkLine.{LinkLine}
 use Rattle.pw_graph.specs.declared.plan.Plan.{Plan}

@@ -8,7 +8,7 @@ use Rattle.std.proofs.lemmas.Nat.Bits.{bit_at-lt}
 use Rattle.std.proofs.lemmas.Bool.{both_ways}
 use Rattle.pw_graph.specs.declared.ids.PortId.{PortId}
 use Rattle.pw_graph.specs.declared.kind.Kind.{Kind}
-use Rattle.pw_graph.specs.declared.limit.Which.{Which}
+use Rattle.pw_lists.specs.declared.limit.Which.{Which}
 use Rattle.pw_graph.specs.declared.plan.LinkLine.{LinkLine}
 use Rattle.pw_graph.specs.declared.plan.LineOutcome.{LineOutcome}
 use Rattle.pw_graph.specs.declared.plan.LineOutcome.TheVariants as O

@@ -5,8 +5,8 @@ use Rattle.std.specs.Prelude.{Option, All, zip, Result, Ok, Err, IfOk}
 use Rattle.std.specs.List.{AllZip}
 use Rattle.std.proofs.lemmas.List.{drop_more, take_more, take_more_set, drop-set-lt, drop-drop, take_all, get_or-drop, get_or_default, length-set, length_push, length-take-le}
 use Rattle.std.proofs.lemmas.List.Elements.{All-nil, All-cons}
-use Rattle.pw_graph.specs.declared.limit.Which.{Which}
-use Rattle.pw_graph.specs.declared.limit.Which.TheVariants as W
+use Rattle.pw_lists.specs.declared.limit.Which.{Which}
+use Rattle.pw_lists.specs.declared.limit.Which.TheVariants as W
 use Rattle.pw_lists.specs.declared.memory.Memory.{Memory}
 use Rattle.pw_graph.specs.declared.plan.Epoch.{Epoch}
 use Rattle.wav_files.specs.declared.wav.WavIn.{WavIn}

@@ -23,7 +23,7 @@ use Rattle.pw_graph.specs.PlanForms.{kind_at, HasForm, IsSoundForm, AreShared, I
 use Rattle.pw_graph.specs.PlanFresh.{IsSoundFresh}
 use Rattle.pw_graph.specs.Pools.{AreAlike, IsPooledShape}
 use Rattle.pw_graph.specs.SoundPlan.{HasSoundPlaces}
-use Rattle.pw_graph.specs.Limits.{quantum_limit}
+use Rattle.pw_lists.specs.Limits.{quantum_limit}
 use Rattle.pw_graph.specs.SoundShape.{IsBetween, IsSoundLink, HasSoundLinks, HasSoundNodes, HasSoundCycles}
 use Rattle.port_model.specs.declared.port_state.PortState.{PortState}
 use Rattle.port_model.specs.declared.port_state.Node.{Node}

@@ -19,7 +19,7 @@ use Rattle.pw_graph.specs.KindPorts.{input_count, port_count}
 use Rattle.pw_graph.specs.KindRanges.{IsSinkOrMeter}
 use Rattle.pw_graph.specs.PlanForms.{kind_at, HasForm, IsSoundForm}
 use Rattle.pw_graph.specs.Pools.{is_same_port}
-use Rattle.pw_graph.specs.Samples.{clamped, silence, summed}
+use Rattle.pw_lists.specs.Samples.{clamped, silence, summed}
 use Rattle.pw_graph.specs.SoundPlan.{IsSoundEpoch, IsSoundPlan}
 use Rattle.wav_files.specs.declared.wav.WavIn.{WavIn}
 use Rattle.cycle_model.specs.Cycle.{Outputs, brought, input_of, stream_of}

@@ -5,7 +5,7 @@ use Rattle.pw_graph.specs.declared.kind.Kind.{Kind}
 use Rattle.pw_graph.specs.declared.plan.Epoch.{Epoch}
 use Rattle.pw_graph.specs.declared.plan.LinkLine.{LinkLine}
 use Rattle.pw_graph.specs.declared.plan.Plan.{Plan}
-use Rattle.pw_graph.specs.Limits.{quantum_limit}
+use Rattle.pw_lists.specs.Limits.{quantum_limit}
 use Rattle.pw_graph.specs.Pools.{IsPooledShape}
 use Rattle.pw_graph.specs.PlanForms.{HasSoundForms}
 use Rattle.pw_graph.specs.PlanFresh.{IsSoundFresh}

@@ -1,7 +1,7 @@
 -- What the links of every graph of a script meet.
 -- Source: this project's own.
 use Rattle.std.specs.Prelude.{◌≡◌, ◌≢◌, ℕ, ◌≤◌, List, length, Some, All, AllPairs}
-use Rattle.pw_graph.specs.Limits.{links_limit}
+use Rattle.pw_lists.specs.Limits.{links_limit}
 use Rattle.pw_graph.specs.declared.kind.Kind.{Kind}
 use Rattle.pw_graph.specs.declared.ids.PortId.{PortId}
 use Rattle.pw_graph.specs.SoundShape.{IsBetween}

@@ -1,7 +1,7 @@
 -- The search for a walk: the links by the node that they leave, and the nodes that are reached.
 -- Source: this project's own.
 use Rattle.std.specs.Prelude.{◌≡◌, ◌⊎◌, ℕ, ◌+◌, ◌-◌, ◌<◌, ◌≤◌, ◌==◌, ◌&&◌, Bool, true, false, not}
-use Rattle.pw_graph.specs.Limits.{links_limit}
+use Rattle.pw_lists.specs.Limits.{links_limit}
 use Rattle.std.specs.Prelude.{List, length, slice_index, slice_index_or, count_by}
 use Rattle.std.specs.List.{All, Contains}
 use Rattle.link_negotiation.specs.declared.link.Link.{Link}

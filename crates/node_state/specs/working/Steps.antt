@@ -2,7 +2,7 @@
 -- Source: this project's node states.
 use Rattle.std.specs.Prelude.{◌≡◌, ℕ, ◌+◌, ◌*◌, ◌/◌, ◌%◌, ◌≤◌, min, max, List, [], ◌∷◌, ◌++◌, length, map, zip, take}
 use Rattle.std.specs.Prelude.{drop, ℤ}
-use Rattle.pw_graph.specs.Samples.{scaled, mixed, silence, of_frames, picked, peak_of}
+use Rattle.pw_lists.specs.Samples.{scaled, mixed, silence, of_frames, picked, peak_of}
 use Rattle.pw_graph.specs.KindFunction.{square_at}
 use Rattle.node_state.specs.declared.kind_state.KindState.{KindState}
 use Rattle.node_state.specs.declared.kind_state.KindState.TheVariants.{Source, Square, Gain, Mix2, Delay, Map, Split, Sink, Meter}

@@ -1,6 +1,6 @@
 //! A delay keeps its line, the samples that it has received and not yet given, in a ring.
 ghost use Rattle.std.specs.Prelude.{◌≡◌, ◌+◌, ◌*◌, ◌<◌, ◌≤◌, ◌++◌, min, length, take, drop, IfOk};
-ghost use Rattle.pw_graph.specs.Samples.{silence};
+ghost use Rattle.pw_lists.specs.Samples.{silence};
 ghost use Rattle.node_state.specs.Slices.{IsNoneOr};
 ghost use Rattle.node_state.specs.working.Line.{turned};
 

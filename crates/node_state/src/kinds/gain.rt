@@ -1,7 +1,7 @@
 //! A gain keeps nothing between quanta.
 ghost use Rattle.std.specs.Prelude.{◌≡◌, length, map, take};
-ghost use Rattle.pw_graph.specs.Samples.{scaled};
-ghost use Rattle.pw_graph.specs.KindRanges.{IsGain};
+ghost use Rattle.pw_lists.specs.Samples.{scaled};
+ghost use Rattle.pw_lists.specs.Samples.{IsGain};
 ghost use Rattle.node_state.specs.Slices.{IsNoneOr};
 
 /// The factor of a gain, in 1/256.

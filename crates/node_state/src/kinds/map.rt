@@ -1,6 +1,6 @@
 //! A channel map keeps nothing between quanta.
 ghost use Rattle.std.specs.Prelude.{◌≡◌, ◌<◌, ◌*◌, ◌/◌, ◌%◌, length, take, All, IfOk};
-ghost use Rattle.pw_graph.specs.Samples.{picked};
+ghost use Rattle.pw_lists.specs.Samples.{picked};
 ghost use Rattle.node_state.specs.Slices.{IsNoneOr};
 
 use pw_lists::{Items, Memory};

@@ -1,6 +1,6 @@
 //! A meter keeps the greatest absolute value of its stream.
 ghost use Rattle.std.specs.Prelude.{◌≡◌, max};
-ghost use Rattle.pw_graph.specs.Samples.{peak_of};
+ghost use Rattle.pw_lists.specs.Samples.{peak_of};
 
 /// The greatest absolute value so far, 0 to 32768.
 #[derive(Drop)]

@@ -1,7 +1,7 @@
 //! A mixer of two inputs keeps nothing between quanta.
 ghost use Rattle.std.specs.Prelude.{◌≡◌, length, map, zip, take};
-ghost use Rattle.pw_graph.specs.Samples.{mixed};
-ghost use Rattle.pw_graph.specs.KindRanges.{IsGain};
+ghost use Rattle.pw_lists.specs.Samples.{mixed};
+ghost use Rattle.pw_lists.specs.Samples.{IsGain};
 ghost use Rattle.node_state.specs.Slices.{IsNoneOr};
 
 /// The factors of the two inputs, in 1/256.

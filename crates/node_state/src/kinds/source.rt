@@ -1,6 +1,6 @@
 //! A source keeps its own copy of the samples that it will give, and its place in them.
 ghost use Rattle.std.specs.Prelude.{◌≡◌, ◌+◌, ◌*◌, ◌<◌, ◌≤◌, ◌++◌, length, min, take, drop, IfOk};
-ghost use Rattle.pw_graph.specs.Samples.{silence};
+ghost use Rattle.pw_lists.specs.Samples.{silence};
 ghost use Rattle.node_state.specs.Slices.{IsNoneOr};
 
 use crate::rows::copy_front;

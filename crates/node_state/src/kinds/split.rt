@@ -1,6 +1,6 @@
 //! A split of stereo into its two channels keeps nothing between quanta.
 ghost use Rattle.std.specs.Prelude.{◌≡◌, ◌<◌, ◌%◌, ◌/◌, length, take, [], ◌∷◌};
-ghost use Rattle.pw_graph.specs.Samples.{picked};
+ghost use Rattle.pw_lists.specs.Samples.{picked};
 ghost use Rattle.node_state.specs.Slices.{IsNoneOr};
 
 /// Nothing.

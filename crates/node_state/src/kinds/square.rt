@@ -1,10 +1,10 @@
 //! A square wave keeps its place in its period.
 ghost use Rattle.std.specs.Prelude.{◌≡◌, ◌+◌, ◌*◌, ◌%◌, ◌<◌, ◌≤◌, ℕ, length, take, pos, ◌≤ℤ◌};
-ghost use Rattle.pw_graph.specs.Samples.{of_frames};
+ghost use Rattle.pw_lists.specs.Samples.{of_frames};
 ghost use Rattle.pw_graph.specs.KindFunction.{square_at};
 ghost use Rattle.pw_graph.specs.SoundShape.{IsBetween};
 ghost use Rattle.pw_graph.specs.KindRanges.{IsChannels};
-ghost use Rattle.pw_graph.specs.Limits.{quantum_limit};
+ghost use Rattle.pw_lists.specs.Limits.{quantum_limit};
 ghost use Rattle.node_state.specs.Slices.{IsNoneOr};
 
 /// The numbers of a square wave. The rate says when a frame is played; no sample depends on it.

@@ -2,7 +2,7 @@
 #![tactic(auto, using(crate::proofs::AllowedLemmas::parts))]
 
 ghost use Rattle.std.specs.Prelude.{◌≡◌, ◌≤◌, ◌/◌, ◌++◌, [], ◌∷◌, codes, length, IfOk};
-ghost use Rattle.pw_graph.specs.Limits.{wav_bytes_limit};
+ghost use Rattle.pw_lists.specs.Limits.{wav_bytes_limit};
 ghost use Rattle.control_sequence.specs.Automation.{ArePoints, automated};
 ghost use Rattle.wav_files.specs.WavWriting.{IsWave};
 ghost use Rattle.pw_top.specs.StatusLine.{numbers_line};
@@ -18,7 +18,7 @@ use crate::status::Status;
 use crate::wave_file::wave_step;
 use crate::work::{Content, Store, Work};
 use control_sequence::{Automation, Points};
-use pw_graph::{WAV_BYTES_LIMIT, Which};
+use pw_lists::{WAV_BYTES_LIMIT, Which};
 use pw_lists::{Items, Memory, Text, append_decimal};
 use pw_outside::Files;
 use std::alloc::Global;

@@ -1,6 +1,6 @@
 //! Channels of interleaved samples, picked.
 ghost use Rattle.std.specs.Prelude.{◌≡◌, ◌+◌, ◌*◌, ◌/◌, ◌%◌, ◌<◌, ◌≤◌, ◌++◌, length, take, drop, map, All, [], ◌∷◌};
-ghost use Rattle.pw_graph.specs.Samples.{picked, sample_at};
+ghost use Rattle.pw_lists.specs.Samples.{picked, sample_at};
 
 /// Writes to frame `i` of `to` the channels of frame `i` of `s` that the list names.
 fn pick_frame(channels: usize, list: &[u32], i: usize, s: &[i16], to: &mut [i16])

@@ -1,6 +1,6 @@
 //! Sums limited to a sample's range.
 ghost use Rattle.std.specs.Prelude.{◌≡◌, length, map};
-ghost use Rattle.pw_graph.specs.Samples.{clamped};
+ghost use Rattle.pw_lists.specs.Samples.{clamped};
 
 /// The sum, limited to a sample's range.
 fn limit(sum: i32) -> i16

@@ -1,7 +1,7 @@
 //! Samples by gains: factors in 1/256, rounded towards minus infinity and then clamped.
 ghost use Rattle.std.specs.Prelude.{◌≡◌, ◌≤◌, length, map, zip, ◌*ℤ◌, unsigned_abs};
 ghost use Rattle.std.specs.Int.{int_shr};
-ghost use Rattle.pw_graph.specs.Samples.{clamped, scaled, mixed};
+ghost use Rattle.pw_lists.specs.Samples.{clamped, scaled, mixed};
 ghost use Rattle.s16_mixer.specs.Ranges.{IsGain};
 
 /// A sample by a gain, before the rounding.

@@ -1,6 +1,6 @@
 //! The greatest absolute value of samples.
 ghost use Rattle.std.specs.Prelude.{◌≡◌, ◌≤◌, max, unsigned_abs};
-ghost use Rattle.pw_graph.specs.Samples.{peak_of};
+ghost use Rattle.pw_lists.specs.Samples.{peak_of};
 
 /// The greater of a peak and the absolute value of one more sample.
 pub fn higher(top: u16, x: i16) -> u16

@@ -1,6 +1,6 @@
 //! Samples added to sums.
 ghost use Rattle.std.specs.Prelude.{◌≡◌, length, All, ◌+ℤ◌};
-ghost use Rattle.pw_graph.specs.Samples.{summed};
+ghost use Rattle.pw_lists.specs.Samples.{summed};
 ghost use Rattle.s16_mixer.specs.Ranges.{HasRoom, IsWithin};
 
 /// The sum with one sample more.

@@ -2,7 +2,7 @@
 -- Source: PipeWire's documentation, "Data loops"; that loops of one node move between threads is
 -- this project's own.
 use Rattle.std.specs.Prelude.{◌≡◌, ℕ, ◌<◌, ◌≤◌, List, Some, length, slice_get, slice_index_or}
-use Rattle.pw_graph.specs.Limits.{nodes_limit}
+use Rattle.pw_lists.specs.Limits.{nodes_limit}
 use Rattle.data_loop.specs.declared.loop_state.LoopState.{LoopState}
 use Rattle.data_loop.specs.Loops.{plan_of, IsLoop}
 use Rattle.data_loop.specs.LoopKept.{IsDone}

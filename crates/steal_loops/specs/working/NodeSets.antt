@@ -2,7 +2,7 @@
 -- Source: this project's own.
 use Rattle.std.specs.Prelude.{◌≡◌, ◌≢◌, ◌≤◌, ℕ, Option, Some, None}
 use Rattle.std.specs.Int.{bit_at}
-use Rattle.pw_graph.specs.Limits.{dummy_node}
+use Rattle.pw_lists.specs.Limits.{dummy_node}
 
 -- the set but for the node that is kept, if one is
 abbrev pub IsBut : Option ℕ → ℕ → ℕ → Type 0

@@ -1,7 +1,7 @@
 -- A stretch of frames with one gain is written after those before it.
 use Rattle.std.proofs.Common.{◌≡◌, ◌+◌, ◌-◌, ◌*◌, ◌/◌, ◌≤◌, ◌∙◌, ◌++◌, length, take, drop, map, refl, ap, arith, ℤ, w32, to_z, of_z}
 use Rattle.std.proofs.lemmas.Int.{ints}
-use Rattle.pw_graph.specs.Samples.{scaled}
+use Rattle.pw_lists.specs.Samples.{scaled}
 use Rattle.control_sequence.specs.Automation.{automated}
 use Rattle.std.proofs.lemmas.Nat.{div-add-mod'}
 use Rattle.control_sequence.proofs.AutomationLemmas.{gain_stays, still_behind, stretch_written, whole_samples, whole_stream}

@@ -1,6 +1,6 @@
 use Rattle.std.proofs.Common.{◌≡◌, ◌∙◌, length, get_or, pos, sym, arith}
 use Rattle.std.proofs.lemmas.List.FromFn.{fill_by_all}
-use Rattle.pw_graph.specs.Samples.{clamped}
+use Rattle.pw_lists.specs.Samples.{clamped}
 use Rattle.cycle_model.proofs.KindLemmas.{each_row}
 use Rattle.cycle_model.proofs.inputs.clamp.Goals as goal
 

@@ -1,5 +1,5 @@
 use Rattle.std.proofs.Common.{◌≡◌, ℕ, ◌<◌, get_or, pos}
-use Rattle.pw_graph.specs.Samples.{clamped}
+use Rattle.pw_lists.specs.Samples.{clamped}
 use Rattle.cycle_model.proofs.inputs.clamp.Given as goal
 
 abbrev pub invariant-loop-i : goal.invariant-loop-i

@@ -1,5 +1,5 @@
 use Rattle.std.proofs.Common.{◌≡◌, ◌*◌, map, filter, fold, drop}
-use Rattle.pw_graph.specs.Samples.{silence, summed}
+use Rattle.pw_lists.specs.Samples.{silence, summed}
 use Rattle.pw_graph.specs.Pools.{is_same_port}
 use Rattle.cycle_model.specs.Epochs.{channels_of}
 use Rattle.cycle_model.specs.working.Known.{brought_by}

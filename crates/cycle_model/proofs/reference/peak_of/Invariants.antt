@@ -1,5 +1,5 @@
 use Rattle.std.proofs.Common.{◌≡◌, take}
-use Rattle.pw_graph.specs.Samples.{peak_of}
+use Rattle.pw_lists.specs.Samples.{peak_of}
 use Rattle.cycle_model.proofs.reference.peak_of.Given as goal
 
 abbrev pub invariant-loop-sample : goal.invariant-loop-sample

@@ -2,8 +2,8 @@ use Rattle.std.proofs.Common.{◌≡◌, ◌≤◌, ℕ, ℤ, pos, ◌∙◌, Li
 use Rattle.std.specs.Prelude.{All, Some}
 use Rattle.std.proofs.lemmas.List.{length-replicate, length-take-le}
 use Rattle.std.proofs.lemmas.List.Elements.{All-head}
-use Rattle.pw_graph.specs.Limits.{links_limit}
-use Rattle.pw_graph.specs.Samples.{clamped, summed}
+use Rattle.pw_lists.specs.Limits.{links_limit}
+use Rattle.pw_lists.specs.Samples.{clamped, summed}
 use Rattle.board_rule.specs.declared.view.View.{View}
 use Rattle.board_rule.specs.Layout.{BoardLayout, layout_of}
 use Rattle.board_rule.specs.buffers.EndViews.{pool_of}

@@ -1,6 +1,6 @@
 use Rattle.std.proofs.Common.{◌≡◌, take, length}
 use Rattle.std.specs.Prelude.{All, fold}
-use Rattle.pw_graph.specs.Samples.{summed}
+use Rattle.pw_lists.specs.Samples.{summed}
 use Rattle.s16_mixer.specs.Ranges.{IsWithin}
 use Rattle.board_rule.specs.Layout.{layout_of}
 use Rattle.data_loop.specs.working.ReadingInputs.{AreRead}

@@ -1,6 +1,6 @@
 use Rattle.std.proofs.Common.{rules, w16, SFits, ◌≡◌, ◌∙◌, ℤ, List, ◌++◌, ◌∷◌, [], ap, length, arith, length-append}
 use Rattle.std.proofs.lemmas.Int.{to_z-of_z}
-use Rattle.pw_graph.specs.Samples.{sample_at}
+use Rattle.pw_lists.specs.Samples.{sample_at}
 use Rattle.graph_pictures.proofs.RangeLemmas.{range_mapped}
 use Rattle.graph_pictures.proofs.wave_columns.lane_of.Goals as goal
 

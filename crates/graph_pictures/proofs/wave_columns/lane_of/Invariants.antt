@@ -1,6 +1,6 @@
 use Rattle.std.proofs.Common.{◌≡◌, length, map}
 use Rattle.std.specs.List.{range_with_len}
-use Rattle.pw_graph.specs.Samples.{sample_at}
+use Rattle.pw_lists.specs.Samples.{sample_at}
 use Rattle.graph_pictures.proofs.wave_columns.lane_of.Given as goal
 
 abbrev pub invariant-loop-f : goal.invariant-loop-f

@@ -1,6 +1,6 @@
 use Rattle.std.proofs.Common.{◌≡◌, ℕ, drop}
 use Rattle.std.specs.Prelude.{Result}
-use Rattle.pw_graph.specs.declared.limit.Which.{Which}
+use Rattle.pw_lists.specs.declared.limit.Which.{Which}
 use Rattle.graph_plan.specs.declared.together.Together.{Together}
 use Rattle.graph_plan.specs.working.Members.{AreReady}
 use Rattle.graph_plan.specs.Together.{FollowTogether}

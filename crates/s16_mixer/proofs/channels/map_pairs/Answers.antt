@@ -1,6 +1,6 @@
 use Rattle.std.proofs.Common.{◌≡◌, ℕ, ◌+◌, ◌*◌, ◌-◌, ◌/◌, ◌%◌, ◌≤◌, ◌∙◌, ◌++◌, length, take, drop, arith, sym, ap}
 use Rattle.std.proofs.Common.{ap₂}
-use Rattle.pw_graph.specs.Samples.{picked}
+use Rattle.pw_lists.specs.Samples.{picked}
 use Rattle.s16_mixer.proofs.LaneLemmas.{lane_read, piece_length}
 use Rattle.s16_mixer.proofs.FrameLemmas.{frames_turn, frames_rest}
 use Rattle.s16_mixer.proofs.channels.map_pairs.Goals as goal

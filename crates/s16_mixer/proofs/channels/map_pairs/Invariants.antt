@@ -1,5 +1,5 @@
 use Rattle.std.proofs.Common.{◌≡◌, ◌++◌, take, drop, ◌*◌}
-use Rattle.pw_graph.specs.Samples.{picked}
+use Rattle.pw_lists.specs.Samples.{picked}
 use Rattle.s16_mixer.proofs.channels.map_pairs.Given as goal
 
 abbrev pub invariant-loop-k : goal.invariant-loop-k

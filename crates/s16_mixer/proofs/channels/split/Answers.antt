@@ -1,6 +1,6 @@
 use Rattle.std.proofs.Common.{◌≡◌, ℕ, ◌+◌, ◌*◌, ◌-◌, ◌<◌, ◌≤◌, ◌∙◌, ◌++◌, length, take, drop, [], ◌∷◌, All, arith}
 use Rattle.std.proofs.Common.{sym, ap, ap₂}
-use Rattle.pw_graph.specs.Samples.{picked}
+use Rattle.pw_lists.specs.Samples.{picked}
 use Rattle.std.proofs.lemmas.Grind.{common_steps}
 use Rattle.s16_mixer.proofs.LaneLemmas.{lane_read, piece_length}
 use Rattle.s16_mixer.proofs.FrameLemmas.{frames_turn, frames_rest}

@@ -1,5 +1,5 @@
 use Rattle.std.proofs.Common.{◌≡◌, ◌+◌, ◌*◌, ◌-◌, ◌∙◌, ◌++◌, length, map, take, drop, arith, sym, ap}
-use Rattle.pw_graph.specs.Samples.{clamped}
+use Rattle.pw_lists.specs.Samples.{clamped}
 use Rattle.s16_mixer.proofs.LaneLemmas.{lane_fits, lane_read, lane_turn, rest_turn}
 use Rattle.s16_mixer.proofs.clamp.clamp_out.Goals as goal
 

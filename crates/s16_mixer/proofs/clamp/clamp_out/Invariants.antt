@@ -1,5 +1,5 @@
 use Rattle.std.proofs.Common.{◌≡◌, take, drop, map, ◌++◌, ◌*◌}
-use Rattle.pw_graph.specs.Samples.{clamped}
+use Rattle.pw_lists.specs.Samples.{clamped}
 use Rattle.s16_mixer.proofs.clamp.clamp_out.Given as goal
 
 abbrev pub invariant-loop-k : goal.invariant-loop-k

@@ -1,6 +1,6 @@
 use Rattle.std.proofs.Common.{◌≡◌, ◌+◌, ◌*◌, ◌-◌, ◌∙◌, ◌++◌, length, map, take, drop, w32, to_z, of_z, arith, sym, ap}
 use Rattle.std.proofs.lemmas.Int.{ints}
-use Rattle.pw_graph.specs.Samples.{scaled}
+use Rattle.pw_lists.specs.Samples.{scaled}
 use Rattle.s16_mixer.proofs.LaneLemmas.{lane_fits, lane_read, lane_turn, rest_turn}
 use Rattle.s16_mixer.proofs.gains.gain.Goals as goal
 

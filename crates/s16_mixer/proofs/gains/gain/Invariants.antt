@@ -1,5 +1,5 @@
 use Rattle.std.proofs.Common.{◌≡◌, take, drop, map, ◌++◌, ◌*◌}
-use Rattle.pw_graph.specs.Samples.{scaled}
+use Rattle.pw_lists.specs.Samples.{scaled}
 use Rattle.s16_mixer.proofs.gains.gain.Given as goal
 
 abbrev pub invariant-loop-k : goal.invariant-loop-k

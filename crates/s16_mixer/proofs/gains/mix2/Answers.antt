@@ -2,7 +2,7 @@ use Rattle.std.proofs.Common.{◌≡◌, ℤ, ◌+◌, ◌*◌, ◌-◌, ◌/◌
 use Rattle.std.proofs.Common.{to_z, of_z, arith, sym, ap, ap₂}
 use Rattle.std.proofs.lemmas.Int.{ints}
 use Rattle.std.proofs.lemmas.Slice.Zip.{length-zip}
-use Rattle.pw_graph.specs.Samples.{mixed}
+use Rattle.pw_lists.specs.Samples.{mixed}
 use Rattle.s16_mixer.proofs.LaneLemmas.{lane_read, lane_turn, rest_turn, zip_lane, zip_drop, lane_fits}
 use Rattle.s16_mixer.proofs.gains.mix2.Goals as goal
 

@@ -1,7 +1,7 @@
 use Rattle.std.proofs.Common.{◌≡◌, ℕ, ℤ, ◌+◌, ◌*◌, ◌/◌, ◌∙◌, max, fold, length, take, drop, map, zip, arith, sym, ap, ap₂}
 use Rattle.std.proofs.Common.{take-add, take-append-drop, take_all}
 use Rattle.std.specs.Prelude.{unsigned_abs}
-use Rattle.pw_graph.specs.Samples.{peak_of}
+use Rattle.pw_lists.specs.Samples.{peak_of}
 use Rattle.s16_mixer.proofs.LaneLemmas.{lane_read, piece_length}
 use Rattle.s16_mixer.proofs.PeakLemmas.{raised, peak_append}
 use Rattle.s16_mixer.proofs.peaks.peak.Goals as goal

@@ -1,5 +1,5 @@
 use Rattle.std.proofs.Common.{◌≡◌, ◌≤◌, ◌*◌, ◌/◌, take, drop, fold, max, length, All}
-use Rattle.pw_graph.specs.Samples.{peak_of}
+use Rattle.pw_lists.specs.Samples.{peak_of}
 use Rattle.s16_mixer.proofs.peaks.peak.Given as goal
 
 abbrev pub invariant-loop-k : goal.invariant-loop-k

@@ -3,7 +3,7 @@ use Rattle.std.proofs.Common.{arith, subst, sym, ap, ap₂, take-append-drop}
 use Rattle.std.proofs.lemmas.List.{take_rest}
 use Rattle.std.proofs.lemmas.List.Elements.{All-append, All-take, All-drop}
 use Rattle.std.proofs.lemmas.Slice.Zip.{length-zip}
-use Rattle.pw_graph.specs.Samples.{summed}
+use Rattle.pw_lists.specs.Samples.{summed}
 use Rattle.s16_mixer.specs.Ranges.{HasRoom, IsWithin}
 use Rattle.s16_mixer.proofs.WithinLemmas.{within_more, lane_joined}
 use Rattle.s16_mixer.proofs.LaneLemmas.{lane_fits, lane_read, lane_turn, rest_turn, zip_lane, zip_drop, lane_untouched}

@@ -1,7 +1,7 @@
 -- The nodes of one chain more; there is room for them, and their numbers are in range.
 use Rattle.std.proofs.Common.{◌≡◌, ◌++◌, length, sym, subst, ap, ◌∙◌, arith}
 use Rattle.std.proofs.lemmas.Int.{ints}
-use Rattle.pw_graph.specs.KindRanges.{IsGain}
+use Rattle.pw_lists.specs.Samples.{IsGain}
 use Rattle.soak_graph.specs.declared.drawing.Chain.{Chain}
 use Rattle.soak_graph.specs.working.Drawing.{chain, chain_in}
 use Rattle.soak_graph.specs.SoakChains.{gain, delay}

@@ -1,5 +1,5 @@
 use Rattle.std.proofs.Common.{◌∙◌, refl, slice_index}
-use Rattle.pw_graph.specs.Samples.{sample_at}
+use Rattle.pw_lists.specs.Samples.{sample_at}
 use Rattle.s16_mixer.proofs.FrameLemmas.{frame_over}
 use Rattle.s16_mixer.proofs.plain.channels.map_channels.Goals as goal
 

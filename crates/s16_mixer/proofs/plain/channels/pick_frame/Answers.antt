@@ -1,6 +1,6 @@
 use Rattle.std.proofs.Common.{rules, arith, ◌≡◌, suc, ◌+◌, ◌*◌, ◌≤◌, pos, length, get_or, w16, to_z, of_z, SFits, refl}
 use Rattle.std.proofs.lemmas.Int.{to_z-of_z}
-use Rattle.pw_graph.specs.Samples.{sample_at}
+use Rattle.pw_lists.specs.Samples.{sample_at}
 use Rattle.s16_mixer.proofs.RowLemmas.{piece_over}
 use Rattle.s16_mixer.proofs.plain.channels.pick_frame.Goals as goal
 

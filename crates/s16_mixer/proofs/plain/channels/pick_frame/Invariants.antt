@@ -1,5 +1,5 @@
 use Rattle.std.proofs.Common.{◌≡◌, ◌+◌, take, drop, map, ◌++◌}
-use Rattle.pw_graph.specs.Samples.{sample_at}
+use Rattle.pw_lists.specs.Samples.{sample_at}
 use Rattle.s16_mixer.proofs.plain.channels.pick_frame.Given as goal
 
 abbrev pub invariant-loop-j : goal.invariant-loop-j

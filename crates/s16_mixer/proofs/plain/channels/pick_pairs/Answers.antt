@@ -1,7 +1,7 @@
 use Rattle.std.proofs.Common.{rules, arith, ◌≡◌, ◌∙◌, ap, ℕ, suc, ◌+◌, ◌*◌, ℤ, pos, [], ◌∷◌, take, drop, ◌++◌, get_or}
 use Rattle.std.proofs.Common.{slice_index, w16, to_z, of_z, SFits, refl}
 use Rattle.std.proofs.lemmas.Int.{to_z-of_z}
-use Rattle.pw_graph.specs.Samples.{sample_at}
+use Rattle.pw_lists.specs.Samples.{sample_at}
 use Rattle.s16_mixer.proofs.RowLemmas.{pair_over}
 use Rattle.s16_mixer.proofs.FrameLemmas.{frame_over}
 use Rattle.s16_mixer.proofs.plain.channels.pick_pairs.Goals as goal

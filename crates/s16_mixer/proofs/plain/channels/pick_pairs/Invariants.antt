@@ -1,5 +1,5 @@
 use Rattle.std.proofs.Common.{◌≡◌, ◌*◌, drop, ◌++◌, [], ◌∷◌, slice_index}
-use Rattle.pw_graph.specs.Samples.{of_frames, sample_at}
+use Rattle.pw_lists.specs.Samples.{of_frames, sample_at}
 use Rattle.s16_mixer.proofs.plain.channels.pick_pairs.Given as goal
 
 abbrev pub invariant-loop-i : goal.invariant-loop-i

@@ -1,6 +1,6 @@
 use Rattle.std.proofs.Common.{rules, arith, ◌≡◌, ◌∙◌, ap, suc, ◌+◌, ◌*◌, pos, get_or, w16, to_z, of_z, SFits}
 use Rattle.std.proofs.lemmas.Int.{to_z-of_z}
-use Rattle.pw_graph.specs.Samples.{sample_at}
+use Rattle.pw_lists.specs.Samples.{sample_at}
 use Rattle.s16_mixer.proofs.RowLemmas.{range_over}
 use Rattle.s16_mixer.proofs.FrameLemmas.{picked_one}
 use Rattle.s16_mixer.proofs.plain.channels.split.Goals as goal

@@ -1,6 +1,6 @@
 use Rattle.std.proofs.Common.{◌≡◌, map, drop, ◌++◌}
 use Rattle.std.specs.List.{range_with_len}
-use Rattle.pw_graph.specs.Samples.{sample_at}
+use Rattle.pw_lists.specs.Samples.{sample_at}
 use Rattle.s16_mixer.proofs.plain.channels.split.Given as goal
 
 abbrev pub invariant-loop-i : goal.invariant-loop-i

@@ -1,6 +1,6 @@
 use Rattle.std.proofs.Common.{arith, ◌≡◌, ◌<◌, pos, length, get_or, w16, to_z, of_z, add-one}
 use Rattle.std.proofs.lemmas.Int.{ints, clamps}
-use Rattle.pw_graph.specs.Samples.{clamped}
+use Rattle.pw_lists.specs.Samples.{clamped}
 use Rattle.s16_mixer.proofs.RowLemmas.{map_over}
 use Rattle.s16_mixer.proofs.plain.clamp.clamp_out.Goals as goal
 

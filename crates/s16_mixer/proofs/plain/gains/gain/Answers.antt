@@ -1,6 +1,6 @@
 use Rattle.std.proofs.Common.{rules, arith, ◌≡◌, ◌<◌, pos, length, get_or, w16, w32, to_z, of_z, add-one, SFits}
 use Rattle.std.proofs.lemmas.Int.{ints, to_z-of_z}
-use Rattle.pw_graph.specs.Samples.{scaled}
+use Rattle.pw_lists.specs.Samples.{scaled}
 use Rattle.s16_mixer.proofs.RowLemmas.{map_over}
 use Rattle.s16_mixer.proofs.plain.gains.gain.Goals as goal
 

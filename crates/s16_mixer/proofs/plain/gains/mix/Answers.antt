@@ -1,7 +1,7 @@
 use Rattle.std.proofs.Common.{arith, ◌≡◌, ◌*ℤ◌, ◌+ℤ◌, w16, w32, to_z, of_z, ◌∙◌, ap, ap₂}
 use Rattle.std.specs.Int.{int_shr}
 use Rattle.std.proofs.lemmas.Int.{ints, to_z-of_z}
-use Rattle.pw_graph.specs.Samples.{clamped}
+use Rattle.pw_lists.specs.Samples.{clamped}
 use Rattle.s16_mixer.proofs.plain.gains.mix.Goals as goal
 
 pub returns : goal.returns

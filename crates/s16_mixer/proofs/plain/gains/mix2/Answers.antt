@@ -1,7 +1,7 @@
 use Rattle.std.proofs.Common.{rules, arith, ◌≡◌, ◌<◌, ℤ, pos, length, get_or, w16, w32, to_z, of_z, add-one, sym, SFits}
 use Rattle.std.proofs.lemmas.Int.{ints, to_z-of_z}
 use Rattle.std.proofs.lemmas.Grind.{common_steps}
-use Rattle.pw_graph.specs.Samples.{mixed}
+use Rattle.pw_lists.specs.Samples.{mixed}
 use Rattle.s16_mixer.proofs.RowLemmas.{zip_over}
 use Rattle.s16_mixer.proofs.plain.gains.mix2.Goals as goal
 

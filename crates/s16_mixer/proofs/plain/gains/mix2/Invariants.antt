@@ -1,6 +1,6 @@
 use Rattle.std.proofs.Common.{◌≡◌, take, drop, map, ◌++◌}
 use Rattle.std.specs.List.{zip}
-use Rattle.pw_graph.specs.Samples.{mixed}
+use Rattle.pw_lists.specs.Samples.{mixed}
 use Rattle.s16_mixer.proofs.plain.gains.mix2.Given as goal
 
 abbrev pub invariant-loop-i : goal.invariant-loop-i

@@ -1,5 +1,5 @@
 use Rattle.std.proofs.Common.{◌≡◌, ◌≤◌, take}
-use Rattle.pw_graph.specs.Samples.{peak_of}
+use Rattle.pw_lists.specs.Samples.{peak_of}
 use Rattle.s16_mixer.proofs.plain.peaks.peak.Given as goal
 
 abbrev pub invariant-loop-x : goal.invariant-loop-x

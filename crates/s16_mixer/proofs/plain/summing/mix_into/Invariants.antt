@@ -1,5 +1,5 @@
 use Rattle.std.proofs.Common.{◌≡◌, ℕ, ℤ, ◌<◌, length, get_or, take, drop, ◌++◌}
-use Rattle.pw_graph.specs.Samples.{summed}
+use Rattle.pw_lists.specs.Samples.{summed}
 use Rattle.s16_mixer.specs.Ranges.{IsWithin}
 use Rattle.s16_mixer.proofs.plain.summing.mix_into.Given as goal
 

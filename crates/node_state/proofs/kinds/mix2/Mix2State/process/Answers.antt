@@ -3,7 +3,7 @@ use Rattle.std.proofs.lemmas.Grind.{common_steps}
 use Rattle.std.proofs.lemmas.Int.{ints}
 use Rattle.std.proofs.lemmas.List.{take_all}
 use Rattle.std.proofs.lemmas.Slice.Zip.{length-zip}
-use Rattle.pw_graph.specs.Samples.{mixed}
+use Rattle.pw_lists.specs.Samples.{mixed}
 use Rattle.node_state.proofs.kinds.mix2.Mix2State.process.Goals as goal
 
 pub returns-then-not-is_empty : goal.returns-then-not-is_empty

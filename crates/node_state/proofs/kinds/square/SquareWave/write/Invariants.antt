@@ -1,5 +1,5 @@
 use Rattle.std.proofs.Common.{◌-◌, ◌≡◌, ◌≤◌, ◌<◌, ◌+◌, ◌*◌, ◌%◌, drop, ◌++◌}
-use Rattle.pw_graph.specs.Samples.{of_frames}
+use Rattle.pw_lists.specs.Samples.{of_frames}
 use Rattle.pw_graph.specs.KindFunction.{square_at}
 use Rattle.node_state.proofs.kinds.square.SquareWave.write.Given as goal
 
