@@ -18,6 +18,6 @@ mod offers;
 #[cfg(test)]
 mod rendering;
 #[cfg(test)]
-mod reports;
-#[cfg(test)]
 mod storing;
+#[cfg(test)]
+mod threads;
