@@ -1,16 +1,17 @@
 //! Runs a piece of work again and again, and prints a checksum of what it leaves: `WORK SAMPLES
-//! REPEATS
-//! GAIN..`, where the work is a sample kernel, a fill, a WAV file written or read, bytes scanned or
-//! read as a POD, the points of a control sequence or a stream by them, and `all` names each. It
-//! measures no time: a script does.
+//! REPEATS GAIN..`, where the work is a sample kernel, a fill, a WAV file written or read, bytes
+//! scanned or read as a POD, the points of a control sequence or a stream by them, events scanned or
+//! checked, a script planned or only read, and `all` names each. It measures no time: a script does.
 #![tactic(auto)]
 
 mod automation;
 mod factors;
 mod kernels;
+mod plans;
 mod pods;
 mod rounds;
 mod rows;
+mod scripts;
 mod traces;
 mod waves;
 
@@ -19,6 +20,7 @@ ghost use Rattle.s16_mixer.specs.Ranges.{IsGain};
 
 use crate::automation::{automate_rounds, control_rounds};
 use crate::factors::factors_of;
+use crate::plans::{parse_epochs, parse_lines, plan_epochs, plan_lines};
 use crate::pods::{array_rounds, flat_rounds, nested_rounds, scan_rounds};
 use crate::rounds::{
     clamp_rounds, gain_rounds, map_rounds, mix_rounds, pair_rounds, peak_rounds, split_rounds,
@@ -65,6 +67,9 @@ const TRACES: [&str; 2] = ["events", "check"];
 /// Those on PODs.
 const PODS: [&str; 4] = ["scan", "read_nested", "read_flat", "read_array"];
 
+/// Those on scripts.
+const SCRIPTS: [&str; 4] = ["plan_epochs", "plan_lines", "parse_epochs", "parse_lines"];
+
 /// The words of the command line, without the program's own name; no words where they are no text.
 fn words_of<R: Env + Alloc<A = Global>>(rt: &R) -> Result<Items<String>, Memory> {
     let mut words = Items::new(rt.alloc());
@@ -104,6 +109,21 @@ fn kernel_sum(
     }
 }
 
+/// The same, where `plain_` before a kernel's name is its plain twin.
+fn twin_sum(
+    alloc: Global,
+    work: &str,
+    n: usize,
+    repeats: u32,
+    gains: &[String],
+) -> Result<u32, Memory> {
+    let factors = factors_of(alloc, gains)?;
+    match work.strip_prefix("plain_") {
+        Some(kernel) => kernel_sum(alloc, true, kernel, n, repeats, factors.as_slice()),
+        None => kernel_sum(alloc, false, work, n, repeats, factors.as_slice()),
+    }
+}
+
 /// The checksum of one work's rounds; 0 for an unknown name.
 fn checksum_of(
     alloc: Global,
@@ -112,7 +132,6 @@ fn checksum_of(
     repeats: u32,
     gains: &[String],
 ) -> Result<u32, Memory> {
-    let factors = factors_of(alloc, gains)?;
     match work {
         "fill" => fill_rounds(alloc, n, repeats),
         "write_wav" => write_rounds(alloc, n, repeats),
@@ -125,10 +144,11 @@ fn checksum_of(
         "read_nested" => nested_rounds(alloc, n, repeats),
         "read_flat" => flat_rounds(alloc, n, repeats),
         "read_array" => array_rounds(alloc, n, repeats),
-        _ => match work.strip_prefix("plain_") {
-            Some(kernel) => kernel_sum(alloc, true, kernel, n, repeats, factors.as_slice()),
-            None => kernel_sum(alloc, false, work, n, repeats, factors.as_slice()),
-        },
+        "plan_epochs" => plan_epochs(alloc, n, repeats),
+        "plan_lines" => plan_lines(alloc, n, repeats),
+        "parse_epochs" => parse_epochs(alloc, n, repeats),
+        "parse_lines" => parse_lines(alloc, n, repeats),
+        _ => twin_sum(alloc, work, n, repeats, gains),
     }
 }
 
@@ -160,6 +180,7 @@ fn run<R: Print + Alloc<A = Global>>(rt: &R, words: &[String]) -> bool {
         && run_some(rt, PODS.as_slice(), words)
         && run_some(rt, SEQUENCES.as_slice(), words)
         && run_some(rt, TRACES.as_slice(), words)
+        && run_some(rt, SCRIPTS.as_slice(), words)
 }
 
 fn main(rt: HostRuntime) -> ExitCode {

@@ -1,9 +1,10 @@
-//! Rounds of planning or reading a text.
+//! Scripts planned again and again, or read alone.
 
+use crate::scripts::{epochs_of, lines_of};
 use graph_script::parse;
 use plan_tests::plan_text;
 use pw_graph::{Epoch, Plan};
-use pw_lists::SCRIPT_BYTES_LIMIT;
+use pw_lists::{Memory, SCRIPT_BYTES_LIMIT};
 use std::alloc::Global;
 
 // A length as a number of 32 bits, 0 where it has none.
@@ -41,7 +42,7 @@ fn planned(alloc: Global, text: &str) -> u32 {
 }
 
 // How many lines a text has that say something, 0 where it is no script.
-fn read(alloc: Global, text: &str) -> u32 {
+fn parsed(alloc: Global, text: &str) -> u32 {
     let bytes = text.as_bytes();
     if SCRIPT_BYTES_LIMIT < bytes.len() as u64 {
         return 0;
@@ -52,16 +53,44 @@ fn read(alloc: Global, text: &str) -> u32 {
     }
 }
 
-/// The sum of the checksums of `repeats` rounds.
-pub fn rounds_of(alloc: Global, is_planned: bool, text: &str, repeats: u32) -> u32 {
+// The sum of the checksums of some plans of a text.
+fn plan_again(alloc: Global, text: &str, repeats: u32) -> u32 {
     let mut sum = 0u32;
     for _round in 0..repeats {
-        let more = if is_planned {
-            planned(alloc, text)
-        } else {
-            read(alloc, text)
-        };
-        sum = sum.wrapping_add(more);
+        sum = sum.wrapping_add(planned(alloc, text));
     }
     sum
+}
+
+// The same of how often a text is read alone.
+fn parse_again(alloc: Global, text: &str, repeats: u32) -> u32 {
+    let mut sum = 0u32;
+    for _round in 0..repeats {
+        sum = sum.wrapping_add(parsed(alloc, text));
+    }
+    sum
+}
+
+/// Plans as many epochs as have at most `n` links.
+pub fn plan_epochs(alloc: Global, n: usize, repeats: u32) -> Result<u32, Memory> {
+    let text = epochs_of(alloc, n)?;
+    Ok(plan_again(alloc, text.as_str(), repeats))
+}
+
+/// Plans one epoch behind at most `n` lines.
+pub fn plan_lines(alloc: Global, n: usize, repeats: u32) -> Result<u32, Memory> {
+    let text = lines_of(alloc, n)?;
+    Ok(plan_again(alloc, text.as_str(), repeats))
+}
+
+/// Reads the script of these epochs, and plans nothing.
+pub fn parse_epochs(alloc: Global, n: usize, repeats: u32) -> Result<u32, Memory> {
+    let text = epochs_of(alloc, n)?;
+    Ok(parse_again(alloc, text.as_str(), repeats))
+}
+
+/// Reads the script of these lines, and plans nothing.
+pub fn parse_lines(alloc: Global, n: usize, repeats: u32) -> Result<u32, Memory> {
+    let text = lines_of(alloc, n)?;
+    Ok(parse_again(alloc, text.as_str(), repeats))
 }

@@ -1,7 +1,10 @@
-//! A script of 63 nodes and 256 links, and lines after it.
+//! A script of 63 nodes and 256 links, and lines behind it.
 
 use pw_lists::Memory;
 use std::alloc::Global;
+
+/// The links of the graph.
+const LINKS: usize = 256;
 
 // Appends the nodes: 21 squares, 21 gains, and 21 meters, of which the first may drive.
 fn put_nodes(alloc: Global, text: &mut String) -> Result<(), Memory> {
@@ -36,9 +39,9 @@ fn put_links(alloc: Global, text: &mut String) -> Result<(), Memory> {
     Ok(())
 }
 
-// Appends six lines that say something of the nodes of one number and of the link between two, and
-// make no epoch.
-fn put_six(alloc: Global, text: &mut String, k: u32) -> Result<(), Memory> {
+// Appends six lines that say something of the nodes of one number and of the link between two, and make
+// no epoch.
+fn put_six(alloc: Global, text: &mut String, k: usize) -> Result<(), Memory> {
     let nodes = format!(in alloc; "off g{k}\non g{k}\nbuffers m{k} in 2\n")?;
     text.push_str(nodes.as_str())?;
     let link = format!(in alloc; "link q{k}.out g{k}.in\nunlink q{k}.out g{k}.in\n")?;
@@ -48,21 +51,29 @@ fn put_six(alloc: Global, text: &mut String, k: u32) -> Result<(), Memory> {
     Ok(())
 }
 
-/// The graph with `count` epochs of one cycle, or with one epoch after `6 * count` lines that make
-/// no epoch.
-pub fn script_of(alloc: Global, work: &str, count: u32) -> Result<String, Memory> {
+// The graph, and no epoch.
+fn graph_of(alloc: Global) -> Result<String, Memory> {
     let mut text = String::from_str(alloc, "quantum 1\n")?;
     put_nodes(alloc, &mut text)?;
     put_links(alloc, &mut text)?;
-    if work == "epochs" {
-        for _epoch in 0..count {
-            text.push_str("cycles 1\n")?;
-        }
-    } else {
-        for i in 0..count {
-            put_six(alloc, &mut text, i % 21)?;
-        }
+    Ok(text)
+}
+
+/// The graph for as many epochs of one cycle as have at most `n` links.
+pub fn epochs_of(alloc: Global, n: usize) -> Result<String, Memory> {
+    let mut text = graph_of(alloc)?;
+    for _epoch in 0..n / LINKS {
         text.push_str("cycles 1\n")?;
     }
+    Ok(text)
+}
+
+/// The graph for one epoch, behind at most `n` lines that make none.
+pub fn lines_of(alloc: Global, n: usize) -> Result<String, Memory> {
+    let mut text = graph_of(alloc)?;
+    for i in 0..n / 6 {
+        put_six(alloc, &mut text, i % 21)?;
+    }
+    text.push_str("cycles 1\n")?;
     Ok(text)
 }
