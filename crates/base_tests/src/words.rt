@@ -16,7 +16,7 @@ fn the_word_of_a_start(rt: HostRuntime) {
 }
 
 #[test]
-fn the_words_of_statuses(rt: HostRuntime) {
+fn statuses_and_areas_are_packed_into_words(rt: HostRuntime) {
     let need = io_word(AreaStatus::NeedData.number(), NO_BLOCK);
     let have = io_word(AreaStatus::HaveData.number(), 1);
     assert_eq!(rt;
@@ -28,7 +28,7 @@ fn the_words_of_statuses(rt: HostRuntime) {
 }
 
 #[test]
-fn statuses_have_numbers(rt: HostRuntime) {
+fn statuses_have_their_numbers(rt: HostRuntime) {
     assert!(rt;
         ActivationStatus::from_number(1) == Some(ActivationStatus::Triggered)
             && ActivationStatus::from_number(4) == None
@@ -49,7 +49,7 @@ fn with_numbers(alloc: Global, numbers: &[u64]) -> Result<Items<u8>, Memory> {
 }
 
 #[test]
-fn numbers_end_a_text(rt: HostRuntime) -> Result<(), Fail> {
+fn numbers_are_appended_in_decimal(rt: HostRuntime) -> Result<(), Fail> {
     let text = with_numbers(rt.alloc(), [0, 4096, u64::MAX].as_slice())?;
     assert!(rt; text.as_slice() == b"n 0409618446744073709551615".as_slice());
     Ok(())

@@ -78,7 +78,7 @@ const ILLEGAL: [(u32, &str); 16] = [
 ];
 
 #[test]
-fn illegal_traces_by_their_place(rt: HostRuntime) -> Result<(), Fail> {
+fn illegal_traces_are_told_by_their_place(rt: HostRuntime) -> Result<(), Fail> {
     for (place, text) in ILLEGAL.iter() {
         assert!(rt; found(&rt, 1, 1, text)? == stops_at(*place), "{text}");
     }
@@ -114,7 +114,7 @@ fn verdict_on<R: AllocGlobal + Abort>(rt: &R, cycles: u32, late: u64) -> Result<
 }
 
 #[test]
-fn cycles_of_two_epochs(rt: HostRuntime) -> Result<(), Fail> {
+fn a_legal_trace_has_the_cycles_of_all_epochs(rt: HostRuntime) -> Result<(), Fail> {
     assert!(rt; verdict_on(&rt, 6, 4)? == Verdict::Legal);
     assert!(rt; verdict_on(&rt, 6, 0)? == Verdict::Legal);
     assert!(rt; verdict_on(&rt, 5, 4)? == Verdict::Illegal { at: 46 });

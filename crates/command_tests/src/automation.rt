@@ -185,7 +185,7 @@ fn front_unlike<R: Threads + Wait + Sync + AllocGlobal>(
 }
 
 #[test]
-fn a_gain_from_the_third_frame_on(rt: HostRuntime) {
+fn a_gain_holds_from_the_third_frame_on(rt: HostRuntime) {
     assert_eq!(rt; first_unlike(&rt, GAINS), None);
 }
 
@@ -200,7 +200,7 @@ fn each_front_of_a_sequence_is_short(rt: HostRuntime) {
 }
 
 #[test]
-fn files_that_are_no_wave_and_no_sequence(rt: HostRuntime) {
+fn files_that_are_no_wave_or_no_sequence_are_refused(rt: HostRuntime) {
     assert_eq!(rt; first_unlike(&rt, NO_FILES), None);
     assert_eq!(rt; usage_unlike(&rt, USAGES, SURE), None);
 }

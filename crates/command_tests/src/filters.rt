@@ -109,12 +109,12 @@ const NO_FORMAT: &'static [Row<'static>] = &[
 ];
 
 #[test]
-fn what_two_formats_have_in_common(rt: HostRuntime) {
+fn filter_stores_the_common_format(rt: HostRuntime) {
     assert_eq!(rt; first_unlike(&rt, FORMATS), None);
 }
 
 #[test]
-fn files_that_are_no_format(rt: HostRuntime) {
+fn files_that_are_no_format_are_refused(rt: HostRuntime) {
     assert_eq!(rt; first_unlike(&rt, NO_FORMAT), None);
 }
 
@@ -156,7 +156,7 @@ fn is_so_of<R: Threads + Wait + Sync + AllocGlobal>(rt: &R, row: Row<'static>, a
 }
 
 #[test]
-fn an_object_that_cannot_be_written(rt: HostRuntime) {
+fn an_object_that_cannot_be_written_is_refused(rt: HostRuntime) {
     assert!(rt; is_so_of(&rt, TOO_LONG, 70_000));
 }
 
@@ -182,6 +182,6 @@ const FAULTS: &'static [Row<'static>] = &[
 ];
 
 #[test]
-fn a_load_and_a_store_fail(rt: HostRuntime) {
+fn a_failed_load_or_store_is_told_with_its_word(rt: HostRuntime) {
     assert_eq!(rt; first_unlike(&rt, FAULTS), None);
 }

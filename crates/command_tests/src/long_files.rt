@@ -38,7 +38,7 @@ impl Files for LongFiles {
 }
 
 #[test]
-fn a_wave_above_its_limit(rt: HostRuntime) {
+fn a_wave_above_its_limit_is_refused(rt: HostRuntime) {
     let mut files = LongFiles { script: SCRIPT };
     let limit = Status::Limit {
         place: 2,
@@ -48,7 +48,7 @@ fn a_wave_above_its_limit(rt: HostRuntime) {
 }
 
 #[test]
-fn a_trace_above_its_limit(rt: HostRuntime) {
+fn a_trace_above_its_limit_is_refused(rt: HostRuntime) {
     let mut files = LongFiles {
         script: b"cycles 1",
     };
@@ -144,7 +144,7 @@ impl Files for BigWaves {
 
 // Two of the waves leave less of 512 MiB than a file may have.
 #[test]
-fn all_waves_above_their_limit(rt: HostRuntime) {
+fn waves_above_their_limit_in_all_are_refused(rt: HostRuntime) {
     let limit = Status::Limit {
         place: 3,
         which: Which::AllWavBytes,

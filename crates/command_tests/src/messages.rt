@@ -308,7 +308,7 @@ fn bare_unlike(alloc: Global, rows: &[(ScriptWhy, &'static [u8])]) -> Option<usi
 }
 
 #[test]
-fn scripts_in_words(rt: HostRuntime) {
+fn each_fault_of_a_script_has_its_sentence(rt: HostRuntime) {
     assert_eq!(rt; script_unlike(rt.alloc(), SCRIPTS), None);
     assert_eq!(rt; bare_unlike(rt.alloc(), NO_LINE), None);
 }
@@ -363,7 +363,7 @@ fn wave_unlike(alloc: Global, rows: &[(WavFault, &'static [u8])]) -> Option<usiz
 }
 
 #[test]
-fn waves_in_words(rt: HostRuntime) {
+fn each_fault_of_a_wave_has_its_sentence(rt: HostRuntime) {
     assert_eq!(rt; wave_unlike(rt.alloc(), WAVES), None);
 }
 
@@ -484,7 +484,7 @@ fn pod_unlike(alloc: Global, rows: &[(PodWhy, &'static [u8])]) -> Option<usize> 
 }
 
 #[test]
-fn pods_in_words(rt: HostRuntime) {
+fn each_fault_of_a_pod_has_its_sentence(rt: HostRuntime) {
     assert_eq!(rt; pod_unlike(rt.alloc(), PODS), None);
 }
 
@@ -609,7 +609,7 @@ const LIMITS: &'static [Said] = &[
 ];
 
 #[test]
-fn limits_in_words(rt: HostRuntime) {
+fn each_limit_has_its_sentence(rt: HostRuntime) {
     assert_eq!(rt; said_unlike(rt.alloc(), LIMITS), None);
 }
 
@@ -676,12 +676,12 @@ const ODD: Said = (
 );
 
 #[test]
-fn control_characters_are_shown(rt: HostRuntime) {
+fn control_characters_are_told_as_escapes(rt: HostRuntime) {
     assert_eq!(rt; said_unlike(rt.alloc(), &[ODD]), None);
 }
 
 #[test]
-fn files_in_words(rt: HostRuntime) {
+fn each_fault_of_a_file_has_its_sentence(rt: HostRuntime) {
     assert_eq!(rt; said_unlike(rt.alloc(), FILES), None);
 }
 
@@ -753,7 +753,7 @@ fn is_silent(alloc: Global) -> bool {
 }
 
 #[test]
-fn command_lines_in_words(rt: HostRuntime) {
+fn words_at_fault_are_told_with_the_usage(rt: HostRuntime) {
     assert_eq!(rt; said_unlike(rt.alloc(), USAGES), None);
     assert_eq!(rt; help_unlike(rt.alloc(), HELP), None);
     assert!(rt; is_silent(rt.alloc()));

@@ -141,16 +141,16 @@ fn note_unlike(alloc: Global, rows: &[Noted]) -> Option<usize> {
 }
 
 #[test]
-fn links_that_are_not_made(rt: HostRuntime) {
+fn a_link_that_is_not_made_has_a_note(rt: HostRuntime) {
     assert_eq!(rt; note_unlike(rt.alloc(), LINKS), None);
 }
 
 #[test]
-fn sinks_without_a_format_or_of_one_file(rt: HostRuntime) {
+fn sinks_without_a_format_or_of_one_file_have_notes(rt: HostRuntime) {
     assert_eq!(rt; note_unlike(rt.alloc(), SINKS), None);
 }
 
 #[test]
-fn checks_filters_and_other_commands(rt: HostRuntime) {
+fn checks_and_filters_have_notes_and_other_commands_none(rt: HostRuntime) {
     assert_eq!(rt; note_unlike(rt.alloc(), OTHERS), None);
 }

@@ -156,6 +156,6 @@ fn each_front_of_a_format_is_short(rt: HostRuntime) {
 }
 
 #[test]
-fn a_file_to_dump_is_too_long(rt: HostRuntime) {
+fn a_pod_file_above_its_limit_is_refused(rt: HostRuntime) {
     assert!(rt; is_so_of(&rt, TOO_LONG, 1_048_585));
 }

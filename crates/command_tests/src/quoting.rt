@@ -30,7 +30,7 @@ fn is_unknown(alloc: Global, line: u32, said: &[u8]) -> bool {
 }
 
 #[test]
-fn the_line_is_that_of_the_script_that_was_read(rt: HostRuntime) {
+fn the_quoted_line_is_that_of_the_script_that_was_read(rt: HostRuntime) {
     let alloc = rt.alloc();
     assert!(rt;
         is_unknown(
@@ -56,7 +56,7 @@ fn the_line_is_that_of_the_script_that_was_read(rt: HostRuntime) {
 }
 
 #[test]
-fn a_word_is_no_line(rt: HostRuntime) {
+fn no_line_is_quoted_where_a_word_is_at_fault(rt: HostRuntime) {
     assert!(rt;
         is_explained(
             rt.alloc(),

@@ -128,7 +128,7 @@ fn scripts_and_files_are_refused_by_cause(rt: HostRuntime) {
 }
 
 #[test]
-fn a_script_is_too_long(rt: HostRuntime) {
+fn a_script_above_its_limit_is_refused(rt: HostRuntime) {
     assert!(rt; is_so_of(&rt, TOO_LONG, 1_048_577));
 }
 

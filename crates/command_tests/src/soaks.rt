@@ -103,12 +103,12 @@ fn is_refused<R: Threads + Wait + Sync + AllocGlobal>(rt: &R) -> bool {
 }
 
 #[test]
-fn the_line_of_a_number(rt: HostRuntime) {
+fn soak_repeats_its_line(rt: HostRuntime) {
     assert_eq!(rt; line_unlike(&rt, LINES), None);
 }
 
 #[test]
-fn words_that_are_no_number(rt: HostRuntime) {
+fn words_that_are_no_number_are_refused(rt: HostRuntime) {
     assert_eq!(rt; usage_unlike(&rt, USAGES, FAULTS), None);
     assert!(rt; is_refused(&rt));
 }

@@ -118,7 +118,7 @@ const USAGES: &'static [Usage] = &[
 ];
 
 #[test]
-fn what_is_found_of_a_trace(rt: HostRuntime) {
+fn a_check_tells_the_first_line_at_fault(rt: HostRuntime) {
     assert_eq!(rt; trace_unlike(&rt, CHECK, FOUND), None);
 }
 

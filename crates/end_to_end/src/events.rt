@@ -1,16 +1,17 @@
-//! What runs print of their events, with one thread and with several.
+//! Who drives, and what runs print of their events, with one thread and with several.
 
-use row_files::{Held, RUN, Row, first_unlike};
+use row_files::{Held, RUN, Row, first_unlike, is_so};
 
-/// Events of one cycle: of the dummy, of a driver without a format, and of two sinks of which the
-/// lower number drives.
-const EVENTS: &'static [Row<'static>] = &[
-    Row {
-        line: "run s.graph --trace",
-        script: b"cycles 1",
-        text: b"begin 0\nstart 0 dummy\nfinish 0 dummy\nend 0\n",
-        ..RUN
-    },
+/// A cycle without a node.
+const IDLE: Row<'static> = Row {
+    line: "run s.graph --trace",
+    script: b"cycles 1",
+    text: b"begin 0\nstart 0 dummy\nfinish 0 dummy\nend 0\n",
+    ..RUN
+};
+
+/// A sink that drives and has no format, with its events and without.
+const NO_FORMAT: &'static [Row<'static>] = &[
     Row {
         line: "run s.graph --trace",
         script: b"sink o o.wav\ndriver o 0\ncycles 1",
@@ -19,14 +20,31 @@ const EVENTS: &'static [Row<'static>] = &[
         ..RUN
     },
     Row {
+        script: b"sink o o.wav\ndriver o 0\ncycles 1\n",
+        text: b"unused o\n",
+        ..RUN
+    },
+];
+
+/// A meter and a sink of one priority.
+const TWO_DRIVERS: Row<'static> = Row {
+    script: b"quantum 2\nsource s s.wav\nmeter p\nsink o o.wav\ndriver o 5\ndriver p 5\n\
+        link s.out p.in\nlink s.out o.in\ncycles 1\n",
+    files: &[("s.wav", Held::Mono(&[5, -9]))],
+    text: b"link s.out p.in 48000 1 2\nlink s.out o.in 48000 1 2\npeak p 9\nwrote o 2\n",
+    stored: &[("o.wav", Some(Held::Mono(&[5, -9])))],
+    ..RUN
+};
+
+/// The same, and with its events: the meter's number is lower.
+const LOWER: &'static [Row<'static>] = &[
+    TWO_DRIVERS,
+    Row {
         line: "run s.graph --loops 0 --trace",
-        script: b"quantum 2\nsource s s.wav\nmeter p\nsink o o.wav\ndriver o 5\ndriver p 5\n\
-            link s.out p.in\nlink s.out o.in\ncycles 1\n",
-        files: &[("s.wav", Held::Mono(&[5, -9]))],
         text: b"link s.out p.in 48000 1 2\nlink s.out o.in 48000 1 2\n\
             begin 0\nstart 0 s\nfinish 0 s\nstart 0 o\nfinish 0 o\nstart 0 p\nfinish 0 p\n\
             end 0\npeak p 9\nwrote o 2\n",
-        ..RUN
+        ..TWO_DRIVERS
     },
 ];
 
@@ -91,8 +109,18 @@ const LOOPS: &'static [Row<'static>] = &[
 ];
 
 #[test]
-fn events_of_one_cycle(rt: HostRuntime) {
-    assert_eq!(rt; first_unlike(&rt, EVENTS), None);
+fn an_idle_cycle_is_driven_by_the_dummy(rt: HostRuntime) {
+    assert!(rt; is_so(&rt, IDLE));
+}
+
+#[test]
+fn a_driver_may_have_no_format(rt: HostRuntime) {
+    assert_eq!(rt; first_unlike(&rt, NO_FORMAT), None);
+}
+
+#[test]
+fn the_lower_number_drives(rt: HostRuntime) {
+    assert_eq!(rt; first_unlike(&rt, LOWER), None);
 }
 
 #[test]

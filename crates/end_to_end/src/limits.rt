@@ -134,7 +134,7 @@ const EVENTS: &'static [Row<'static>] = &[
 ];
 
 #[test]
-fn events_above_the_limit(rt: HostRuntime) {
+fn events_above_the_limit_are_refused(rt: HostRuntime) {
     assert_eq!(rt; first_unlike(&rt, EVENTS), None);
 }
 
@@ -175,7 +175,7 @@ const UNUSED: &'static [Lines] = &[
 ];
 
 #[test]
-fn nodes_up_to_the_limit(rt: HostRuntime) {
+fn nodes_are_accepted_up_to_the_limit(rt: HostRuntime) {
     let status = Status::Script {
         line: 64,
         why: ScriptWhy::TooMany(Which::Nodes),
@@ -185,7 +185,7 @@ fn nodes_up_to_the_limit(rt: HostRuntime) {
 }
 
 #[test]
-fn epochs_up_to_the_limit(rt: HostRuntime) {
+fn epochs_are_accepted_up_to_the_limit(rt: HostRuntime) {
     let status = Status::Script {
         line: 1025,
         why: ScriptWhy::TooMany(Which::Epochs),
@@ -254,7 +254,7 @@ const LINKED: &'static [Lines] = &[
 
 // The links begin on line 37.
 #[test]
-fn links_up_to_the_limit(rt: HostRuntime) {
+fn links_are_accepted_up_to_the_limit(rt: HostRuntime) {
     let status = Status::Limit {
         place: 293,
         which: Which::Links,
@@ -277,6 +277,6 @@ const BLOCKS: Repeated = (
 );
 
 #[test]
-fn a_byte_of_blocks_too_many(rt: HostRuntime) {
+fn a_byte_of_blocks_too_many_is_refused(rt: HostRuntime) {
     assert!(rt; repeats(&rt, BLOCKS));
 }

@@ -72,7 +72,7 @@ fn four_minutes_of_stereo(rt: HostRuntime) {
 }
 
 #[test]
-fn as_many_cycles_as_events_allow(rt: HostRuntime) {
+fn as_many_cycles_as_events_allow_are_run(rt: HostRuntime) {
     let row = Row {
         script: b"cycles 838860\n",
         ..RUN

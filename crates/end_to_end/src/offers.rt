@@ -158,11 +158,11 @@ fn an_offer_makes_a_rate_clash(rt: HostRuntime) {
 }
 
 #[test]
-fn an_offer_that_does_not_fit(rt: HostRuntime) {
+fn an_offer_that_does_not_fit_is_refused(rt: HostRuntime) {
     assert_eq!(rt; first_unlike(&rt, UNFIT), None);
 }
 
 #[test]
-fn offers_that_clash_or_are_none(rt: HostRuntime) {
+fn offers_that_clash_or_are_no_formats_are_refused(rt: HostRuntime) {
     assert_eq!(rt; first_unlike(&rt, OF_A_SINK), None);
 }

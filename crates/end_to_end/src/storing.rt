@@ -185,7 +185,7 @@ fn put_unlike<R: Threads + Wait + Sync + AllocGlobal>(rt: &R, base: Row<'static>
 }
 
 #[test]
-fn one_file_for_several_lines(rt: HostRuntime) {
+fn several_lines_name_one_file(rt: HostRuntime) {
     assert_eq!(rt; first_unlike(&rt, ONE_FILE), None);
 }
 

@@ -179,7 +179,7 @@ fn an_output_takes_an_inputs_rate(rt: HostRuntime) -> Result<(), Fail> {
 }
 
 #[test]
-fn a_shared_value_outside_an_own_offer(rt: HostRuntime) -> Result<(), Fail> {
+fn a_shared_value_outside_an_own_offer_makes_no_link(rt: HostRuntime) -> Result<(), Fail> {
     let lines = [
         (Line::Link((1, 0), (0, 0)), Did::Made(44100, 1, 2)),
         (Line::Offer((0, 1)), Did::Nothing(65539)),
@@ -288,7 +288,7 @@ fn full_does(alloc: Global, lines: &[(Line, Did)]) -> Result<Option<usize>, Memo
 }
 
 #[test]
-fn at_most_256_links(rt: HostRuntime) -> Result<(), Fail> {
+fn there_are_at_most_256_links_at_a_time(rt: HostRuntime) -> Result<(), Fail> {
     let lines = [
         (Line::Link((32, 1), (33, 0)), Did::Many),
         (Line::Link((0, 1), (31, 0)), Did::Twice),

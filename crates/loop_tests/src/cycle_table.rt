@@ -293,7 +293,7 @@ fn wrong_row(alloc: Global) -> Option<usize> {
 }
 
 #[test]
-fn the_table_of_two_cycles(rt: HostRuntime) -> Result<(), Fail> {
+fn two_cycles_leave_the_words_of_the_table(rt: HostRuntime) -> Result<(), Fail> {
     assert_eq!(rt; wrong_row(rt.alloc()), None);
     Ok(())
 }

@@ -8,7 +8,7 @@ use std::test::Fail;
 
 // Each cycle of the built-in driver alone has five events, of which there may be 4,194,304.
 #[test]
-fn events_up_to_the_limit(rt: HostRuntime) -> Result<(), Fail> {
+fn events_are_planned_up_to_the_limit(rt: HostRuntime) -> Result<(), Fail> {
     let wanted = "from 0 cycles 838860 driver 63\nnode 63 waits 1 wakes 63\n";
     expect_part(&rt, "cycles 838860", [].as_slice(), Part::Shape, wanted)?;
     expect_limit(&rt, "cycles 838861", 1, Which::Events);
@@ -23,7 +23,7 @@ fn events_up_to_the_limit(rt: HostRuntime) -> Result<(), Fail> {
 
 // A cycle has 65,536 samples of the sink, of which there may be 134,217,728.
 #[test]
-fn samples_of_sinks_up_to_the_limit(rt: HostRuntime) -> Result<(), Fail> {
+fn samples_of_sinks_are_planned_up_to_the_limit(rt: HostRuntime) -> Result<(), Fail> {
     let text = "quantum 8192\nsquare q 48000 8 4 1\nsink o o.wav\nlink q.out o.in\ncycles 2048\n";
     let wanted = "from 0 cycles 2048 driver 63\n";
     expect_part(&rt, text, [].as_slice(), Part::Nothing, wanted)?;
@@ -43,7 +43,7 @@ fn append(text: &mut String, line: &str, count: u32) -> Result<(), Memory> {
 
 // Each epoch has 8 buffers of 8192 frames of 16 bytes, of which 256 make the limit.
 #[test]
-fn bytes_of_blocks_up_to_the_limit(rt: HostRuntime) -> Result<(), Fail> {
+fn bytes_of_blocks_are_planned_up_to_the_limit(rt: HostRuntime) -> Result<(), Fail> {
     let alloc = rt.alloc();
     let first = "quantum 8192\nsquare q 48000 8 4 1\nmeter p\nbuffers q out 8\nlink q.out p.in\n";
     let mut text = String::from_str(alloc, first)?;

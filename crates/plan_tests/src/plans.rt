@@ -194,7 +194,7 @@ fn a_part_may_differ_from_the_whole(rt: HostRuntime) -> Result<(), Fail> {
 // Two parts of two nodes have 14 events in each cycle, of which there may be 4,194,304; none of
 // them passes the limit alone.
 #[test]
-fn events_of_all_parts_up_to_the_limit(rt: HostRuntime) -> Result<(), Fail> {
+fn events_of_all_parts_are_planned_up_to_the_limit(rt: HostRuntime) -> Result<(), Fail> {
     let text = "square q 48000 1 4 1\nsquare r 48000 1 4 1\nmeter m\nmeter n\ndriver m 1\n\
         driver n 1\nlink q.out m.in\nlink r.out n.in\ncycles 299593\n";
     let wanted = "part 0 2\nfrom 0 cycles 299593 driver 2 of 2\n\
@@ -252,7 +252,7 @@ fn put_links(
 
 // Links are counted over the whole script, also where each part has fewer. Two squares have none.
 #[test]
-fn links_of_all_parts_up_to_the_limit(rt: HostRuntime) -> Result<(), Fail> {
+fn links_of_all_parts_are_planned_up_to_the_limit(rt: HostRuntime) -> Result<(), Fail> {
     let alloc = rt.alloc();
     let mut text = String::new(alloc);
     put_nodes(alloc, &mut text, "a", "b")?;

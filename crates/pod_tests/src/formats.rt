@@ -514,7 +514,7 @@ fn fault_of(alloc: Global, values: Given) -> u8 {
 }
 
 #[test]
-fn values_at_fault(rt: HostRuntime) {
+fn values_at_fault_are_refused_by_cause(rt: HostRuntime) {
     for (kind, numbers, number) in [
         (ChoiceKind::Flags, [1, 2].as_slice(), 3),
         (RANGE, [1, 2].as_slice(), 4),
