@@ -1,11 +1,11 @@
 //! `check SCRIPT TRACE`: what is found of a trace, and what refuses it.
 
 use crate::usages::{Usage, usage_unlike};
-use pw_lists::{Items, Memory};
+use pw_lists::{Items, Memory, Which};
 use pw_outside::{MemFiles, MemSink};
 use pw_top::Status;
 use row_files::{
-    Faults, FileRow, Held, RUN, Row, S_WAV, SURE, add, ends_so, files_of, first_unlike, is_so_with,
+    Faults, FileRow, Held, LongFiles, RUN, Row, S_WAV, SURE, add, ends_so, files_of, first_unlike, is_so_with,
     run_line,
 };
 use std::alloc::Global;
@@ -120,6 +120,19 @@ const USAGES: &'static [Usage] = &[
 #[test]
 fn a_check_tells_the_first_line_at_fault(rt: HostRuntime) {
     assert_eq!(rt; trace_unlike(&rt, CHECK, FOUND), None);
+}
+
+#[test]
+fn a_trace_above_its_limit_is_refused(rt: HostRuntime) {
+    let mut files = LongFiles {
+        script: b"cycles 1",
+    };
+    let limit = Status::Limit {
+        place: 4_294_967_295,
+        which: Which::TraceBytes,
+    };
+    let line = "check s.graph t.txt";
+    assert!(rt; ends_so(&rt, &mut files, SURE, line, limit, b"limit 4294967295 11\n"));
 }
 
 #[test]

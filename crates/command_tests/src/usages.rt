@@ -1,7 +1,10 @@
 //! Words that are no command line.
 
-use pw_top::Status;
-use row_files::{Faults, RUN, Row, S_WAV, SCRIPT, SURE, is_so};
+use pw_lists::{Items, Memory};
+use pw_outside::{MemFiles, MemSink, Never, Open};
+use pw_top::{Status, run_words};
+use row_files::{Faults, RUN, Row, S_WAV, SCRIPT, SURE, files_of, is_so};
+use std::alloc::Global;
 use std::sync::Wait;
 use std::thread::Threads;
 
@@ -70,8 +73,71 @@ const OF_PODS: &'static [Usage] = &[
     ("filter a b c d", 4, b"usage 4\n"),
 ];
 
+/// Lines of `soak`: no number, or more than one.
+const OF_SOAK: &'static [Usage] = &[
+    ("soak", 1, b"usage 1\n"),
+    ("soak x", 1, b"usage 1\n"),
+    ("soak -1", 1, b"usage 1\n"),
+    ("soak +1", 1, b"usage 1\n"),
+    ("soak 07", 1, b"usage 1\n"),
+    ("soak 4294967296", 1, b"usage 1\n"),
+    ("soak 18446744073709551623", 1, b"usage 1\n"),
+    ("soak 7 8", 2, b"usage 2\n"),
+    ("soak x 8", 1, b"usage 1\n"),
+];
+
+/// No load and no store is made without a fault.
+const FAULTS: Faults = Faults {
+    load: 1,
+    store: (1, 0),
+    put: (0, 0),
+};
+
+// The word "soak", and an empty one.
+fn empty_word(alloc: Global) -> Result<Items<String>, Memory> {
+    let mut words = Items::new(alloc);
+    for word in ["soak", ""] {
+        words.push(String::from_str(alloc, word)?)?;
+    }
+    Ok(words)
+}
+
+// Whether these words are refused by the second of them.
+fn refuses<R: Threads + Wait + Sync + AllocGlobal>(
+    rt: &R,
+    words: &[String],
+    files: &mut MemFiles,
+) -> bool {
+    let Ok(mut out) = MemSink::new(rt.alloc()) else {
+        return false;
+    };
+    let report = run_words(
+        rt,
+        rt.alloc(),
+        words,
+        files,
+        &mut out,
+        &Open::new(),
+        &mut Never::new(),
+    );
+    report.status == Status::Usage { word: 1 } && out.bytes().as_slice() == b"usage 1\n".as_slice()
+}
+
+// Whether an empty word is no number.
+fn is_refused<R: Threads + Wait + Sync + AllocGlobal>(rt: &R) -> bool {
+    let Ok(words) = empty_word(rt.alloc()) else {
+        return false;
+    };
+    match files_of(rt.alloc(), b"", &[], FAULTS) {
+        Ok(mut files) => refuses(rt, words.as_slice(), &mut files),
+        Err(_memory) => false,
+    }
+}
+
 #[test]
 fn words_outside_the_grammar(rt: HostRuntime) {
     assert_eq!(rt; usage_unlike(&rt, OF_RUN, SURE), None);
     assert_eq!(rt; usage_unlike(&rt, OF_PODS, SURE), None);
+    assert_eq!(rt; usage_unlike(&rt, OF_SOAK, FAULTS), None);
+    assert!(rt; is_refused(&rt));
 }

@@ -1,8 +1,11 @@
-//! Tests of whole scripts over files and an output in memory. There is nothing else here.
+//! Tests of the commands that run a graph, `run`, `groups` and `soak`, over files and an output in
+//! memory. There is nothing else here.
 #![tactic(auto)]
 
 #[cfg(test)]
 mod events;
+#[cfg(test)]
+mod faults;
 #[cfg(test)]
 mod graphs;
 #[cfg(test)]
@@ -12,11 +15,19 @@ mod limits;
 #[cfg(test)]
 mod linking;
 #[cfg(test)]
+mod long_files;
+#[cfg(test)]
 mod long_runs;
 #[cfg(test)]
 mod offers;
 #[cfg(test)]
+mod refusals;
+#[cfg(test)]
 mod rendering;
+#[cfg(test)]
+mod scripts;
+#[cfg(test)]
+mod soaks;
 #[cfg(test)]
 mod storing;
 #[cfg(test)]

@@ -1,41 +1,11 @@
-//! Files that are longer than they may be.
+//! Waves that are longer than they may be, one and all together.
 
 use pw_lists::Which;
 use pw_lists::{Items, Memory, Text};
 use pw_outside::{FileFail, Files, Loaded};
 use pw_top::Status;
-use row_files::{SCRIPT, SURE, ends_so};
+use row_files::{LongFiles, SCRIPT, SURE, ends_so};
 use std::alloc::Global;
-
-/// Files that hold a script, and say of every other that it is too long.
-#[derive(Drop)]
-struct LongFiles {
-    script: &'static [u8],
-}
-
-impl Files for LongFiles {
-    ghost use Rattle.std.specs.Prelude.{None};
-
-    ghost held = { λ _. None };
-
-    ghost load_faults = { λ _. 0 };
-
-    ghost store_faults = { λ _. 0 };
-
-    fn load(&mut self, alloc: Global, name: &Text, limit: u64) -> Result<Loaded, FileFail> {
-        if name.as_slice() != b"s.graph".as_slice() || limit < self.script.len() as u64 {
-            return Ok(Loaded::TooLong);
-        }
-        match Items::from_slice(alloc, self.script) {
-            Ok(bytes) => Ok(Loaded::Whole(bytes)),
-            Err(_memory) => Err(FileFail::Memory),
-        }
-    }
-
-    fn store(&mut self, _alloc: Global, _name: &Text, _bytes: &[u8]) -> Result<(), FileFail> {
-        Ok(())
-    }
-}
 
 #[test]
 fn a_wave_above_its_limit_is_refused(rt: HostRuntime) {
@@ -45,19 +15,6 @@ fn a_wave_above_its_limit_is_refused(rt: HostRuntime) {
         which: Which::WavBytes,
     };
     assert!(rt; ends_so(&rt, &mut files, SURE, "run s.graph", limit, b"limit 2 2\n"));
-}
-
-#[test]
-fn a_trace_above_its_limit_is_refused(rt: HostRuntime) {
-    let mut files = LongFiles {
-        script: b"cycles 1",
-    };
-    let limit = Status::Limit {
-        place: 4_294_967_295,
-        which: Which::TraceBytes,
-    };
-    let line = "check s.graph t.txt";
-    assert!(rt; ends_so(&rt, &mut files, SURE, line, limit, b"limit 4294967295 11\n"));
 }
 
 /// Three sources.
