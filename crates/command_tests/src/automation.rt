@@ -3,9 +3,7 @@
 
 use crate::usages::{Usage, usage_unlike};
 use pw_top::{PodWhy, Status};
-use row_files::{Faults, FileRow, Held, RUN, Row, SURE, first_unlike, is_so_with};
-use std::sync::Wait;
-use std::thread::Threads;
+use row_files::{Faults, FileRow, Held, RUN, Row, SURE, first_unlike, front_unlike};
 use wav_files::WavFault;
 
 /// From frame 2 on, a gain of 128/256.
@@ -171,19 +169,6 @@ const SHORT: Row<'static> = Row {
     ..HALVED
 };
 
-// The first length at which the front of a sequence is not short.
-fn front_unlike<R: Threads + Wait + Sync + AllocGlobal>(
-    rt: &R,
-    row: Row<'static>,
-) -> Option<usize> {
-    for len in 0..HALF.len() {
-        if !is_so_with(rt, row, "s.pod", &HALF[..len]) {
-            return Some(len);
-        }
-    }
-    None
-}
-
 #[test]
 fn a_gain_holds_from_the_third_frame_on(rt: HostRuntime) {
     assert_eq!(rt; first_unlike(&rt, GAINS), None);
@@ -196,7 +181,7 @@ fn sequences_are_refused_by_cause(rt: HostRuntime) {
 
 #[test]
 fn each_front_of_a_sequence_is_short(rt: HostRuntime) {
-    assert_eq!(rt; front_unlike(&rt, SHORT), None);
+    assert_eq!(rt; front_unlike(&rt, SHORT, "s.pod", HALF.as_slice()), None);
 }
 
 #[test]

@@ -2,9 +2,7 @@
 
 use pw_lists::Which;
 use pw_top::{PodWhy, Status};
-use row_files::{Faults, Held, RUN, Row, SURE, blanks, first_unlike, is_so_with};
-use std::sync::Wait;
-use std::thread::Threads;
+use row_files::{Faults, Held, RUN, Row, SURE, first_unlike, front_unlike, is_so_with_blanks};
 
 /// A format object whose rate is 48000.
 const FORMAT: [u8; 40] = [
@@ -109,19 +107,6 @@ const SHORT: Row<'static> = Row {
     ..INT
 };
 
-// The first length at which the front of a format is not short.
-fn front_unlike<R: Threads + Wait + Sync + AllocGlobal>(
-    rt: &R,
-    row: Row<'static>,
-) -> Option<usize> {
-    for len in 0..FORMAT.len() {
-        if !is_so_with(rt, row, "f.pod", &FORMAT[..len]) {
-            return Some(len);
-        }
-    }
-    None
-}
-
 /// More bytes than a POD may have.
 const TOO_LONG: Row<'static> = Row {
     status: Status::Limit {
@@ -131,14 +116,6 @@ const TOO_LONG: Row<'static> = Row {
     text: b"limit 1 4\n",
     ..INT
 };
-
-// Whether a row comes out as wanted where the file has n blanks.
-fn is_so_of<R: Threads + Wait + Sync + AllocGlobal>(rt: &R, row: Row<'static>, len: usize) -> bool {
-    match blanks(rt.alloc(), len) {
-        Ok(bytes) => is_so_with(rt, row, "f.pod", bytes.as_slice()),
-        Err(_memory) => false,
-    }
-}
 
 #[test]
 fn pods_are_dumped(rt: HostRuntime) {
@@ -152,10 +129,10 @@ fn files_of_no_pod_are_refused_by_cause(rt: HostRuntime) {
 
 #[test]
 fn each_front_of_a_format_is_short(rt: HostRuntime) {
-    assert_eq!(rt; front_unlike(&rt, SHORT), None);
+    assert_eq!(rt; front_unlike(&rt, SHORT, "f.pod", FORMAT.as_slice()), None);
 }
 
 #[test]
 fn a_pod_file_above_its_limit_is_refused(rt: HostRuntime) {
-    assert!(rt; is_so_of(&rt, TOO_LONG, 1_048_585));
+    assert!(rt; is_so_with_blanks(&rt, TOO_LONG, "f.pod", 1_048_585));
 }

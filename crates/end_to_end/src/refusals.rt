@@ -2,7 +2,7 @@
 
 use pw_lists::Which;
 use pw_top::Status;
-use row_files::{RUN, Row, S_WAV, SCRIPT, blanks, first_unlike, is_so_with};
+use row_files::{RUN, Row, S_WAV, SCRIPT, first_unlike, is_so_with, is_so_with_blanks};
 use std::sync::Wait;
 use std::thread::Threads;
 use wav_files::WavFault;
@@ -114,14 +114,6 @@ const TOO_LONG: Row<'static> = Row {
     ..RUN
 };
 
-// Whether a row comes out as wanted where the script has n blanks.
-fn is_so_of<R: Threads + Wait + Sync + AllocGlobal>(rt: &R, row: Row<'static>, len: usize) -> bool {
-    match blanks(rt.alloc(), len) {
-        Ok(script) => is_so_with(rt, row, "long", script.as_slice()),
-        Err(_memory) => false,
-    }
-}
-
 #[test]
 fn scripts_and_files_are_refused_by_cause(rt: HostRuntime) {
     assert_eq!(rt; first_unlike(&rt, FILES), None);
@@ -129,7 +121,7 @@ fn scripts_and_files_are_refused_by_cause(rt: HostRuntime) {
 
 #[test]
 fn a_script_above_its_limit_is_refused(rt: HostRuntime) {
-    assert!(rt; is_so_of(&rt, TOO_LONG, 1_048_577));
+    assert!(rt; is_so_with_blanks(&rt, TOO_LONG, "long", 1_048_577));
 }
 
 #[test]

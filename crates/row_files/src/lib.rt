@@ -15,5 +15,7 @@ pub use comparing::Stored;
 pub use filling::{Faults, SURE, add, files_of};
 pub use held::{FileRow, Held};
 pub use long_files::LongFiles;
-pub use rows::{RUN, Row, ends_so, first_unlike, is_so, is_so_with};
-pub use script_files::{S_WAV, SCRIPT, SINK, SOURCE, blanks};
+pub use rows::{
+    RUN, Row, ends_so, first_unlike, front_unlike, is_so, is_so_with, is_so_with_blanks,
+};
+pub use script_files::{S_WAV, SCRIPT, SINK, SOURCE};

@@ -4,6 +4,7 @@ use crate::command_line::run_line;
 use crate::comparing::{Stored, all_stored};
 use crate::filling::{Faults, SURE, add, files_of, sink_of};
 use crate::held::FileRow;
+use crate::script_files::blanks;
 use pw_outside::{Files, MemFiles};
 use pw_top::Status;
 use std::sync::Wait;
@@ -84,6 +85,35 @@ pub fn is_so_with<R: Threads + Wait + Sync + AllocGlobal>(
         Ok(()) => comes_out(rt, row, &mut files),
         Err(_memory) => false,
     }
+}
+
+/// Whether a row is as wanted where so many blanks are held under this name.
+pub fn is_so_with_blanks<R: Threads + Wait + Sync + AllocGlobal>(
+    rt: &R,
+    row: Row<'_>,
+    name: &str,
+    len: usize,
+) -> bool {
+    match blanks(rt.alloc(), len) {
+        Ok(bytes) => is_so_with(rt, row, name, bytes.as_slice()),
+        Err(_memory) => false,
+    }
+}
+
+/// The length of the first front of these bytes, held under this name, with which a row is not as
+/// wanted. The bytes as a whole are no front.
+pub fn front_unlike<R: Threads + Wait + Sync + AllocGlobal>(
+    rt: &R,
+    row: Row<'_>,
+    name: &str,
+    bytes: &[u8],
+) -> Option<usize> {
+    for len in 0..bytes.len() {
+        if !is_so_with(rt, row, name, &bytes[..len]) {
+            return Some(len);
+        }
+    }
+    None
 }
 
 /// The place of the first row that is not as wanted.
