@@ -5,8 +5,8 @@ use pw_lists::{Items, Memory, Which};
 use pw_outside::{MemFiles, MemSink};
 use pw_top::Status;
 use row_files::{
-    Faults, FileRow, Held, LongFiles, RUN, Row, S_WAV, SURE, add, ends_so, files_of, first_unlike, is_so_with,
-    run_line,
+    Faults, FileRow, Held, LongFiles, RUN, Row, S_WAV, SURE, add, ends_so, files_of, first_unlike,
+    is_so_with, run_line,
 };
 use std::alloc::Global;
 use std::str;
