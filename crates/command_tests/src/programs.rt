@@ -6,6 +6,7 @@ use pw_program::run_program;
 use row_files::{Faults, S_WAV, SCRIPT, SURE, files_of, words_of};
 use std::alloc::Global;
 use std::sync::Wait;
+use std::test::Fail;
 use std::thread::Threads;
 
 /// A line of words over files, the number that it ends with, and what both outputs are given.
@@ -122,4 +123,55 @@ fn first_unlike<R: Threads + Wait + Sync + AllocGlobal>(rt: &R, rows: &[Told]) -
 #[test]
 fn programs_end_and_say_why(rt: HostRuntime) {
     assert_eq!(rt; first_unlike(&rt, ROWS), None);
+}
+
+// A text of some lines, of one line 200 times, and of a last one.
+fn repeated(alloc: Global, first: &[u8], line: &[u8], last: &[u8]) -> Result<Items<u8>, Memory> {
+    let mut text = Items::from_slice(alloc, first)?;
+    for _line in 0..200 {
+        text.extend(line)?;
+    }
+    text.extend(last)?;
+    Ok(text)
+}
+
+// The note on each of 200 lines.
+fn noted(alloc: Global) -> Result<Items<u8>, Memory> {
+    let mut notes = Items::new(alloc);
+    for line in 5..205 {
+        let note = format!(in alloc;
+            "pipegraph: s.graph:{line}: \"s.out\" to \"o.in\" is no link: it is there already\n"
+        )?;
+        notes.extend(note.as_bytes())?;
+    }
+    Ok(notes)
+}
+
+// Whether a run of a script puts a text, and these notes.
+fn notes_are<R: Threads + Wait + Sync + AllocGlobal>(
+    rt: &R,
+    script: &[u8],
+    text: &[u8],
+    notes: &[u8],
+) -> Result<bool, Memory> {
+    let alloc = rt.alloc();
+    let words = words_of(alloc, "run s.graph")?;
+    let files = files_of(alloc, script, &[S_WAV], SURE)?;
+    let out = MemSink::new(alloc)?;
+    let mut errors = MemSink::new(alloc)?;
+    let ended = run_program(rt, alloc, words.as_slice(), files, out, &mut errors);
+    Ok(ended.out.bytes().as_slice() == text && errors.bytes().as_slice() == notes)
+}
+
+// The text of 200 links that are there already has more than 4 KiB.
+#[test]
+fn a_long_text_has_its_notes(rt: HostRuntime) -> Result<(), Fail> {
+    let alloc = rt.alloc();
+    let nodes = b"quantum 2\nsource s s.wav\nsink o o.wav\nlink s.out o.in\n".as_slice();
+    let script = repeated(alloc, nodes, b"link s.out o.in\n", b"cycles 2\n")?;
+    let made = b"link s.out o.in 48000 1 2\n".as_slice();
+    let text = repeated(alloc, made, b"nolink s.out o.in twice\n", b"wrote o 4\n")?;
+    let notes = noted(alloc)?;
+    assert!(rt; notes_are(&rt, script.as_slice(), text.as_slice(), notes.as_slice())?);
+    Ok(())
 }
