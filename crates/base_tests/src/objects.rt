@@ -1,8 +1,7 @@
 //! The files and outputs in memory, what says when a run ends, and kinds.
 
 use pw_graph::Kind;
-use pw_lists::Which;
-use pw_lists::{Items, Memory, Text};
+use pw_lists::{Items, Memory, Text, Which};
 use pw_outside::{
     Every, FileFail, Files, Gate, Loaded, MemFiles, MemSink, Never, Open, Sink, SureFiles,
     SureSink, Ticker,

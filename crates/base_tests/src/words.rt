@@ -1,6 +1,9 @@
 //! Words that stand for events and statuses, and numbers at the end of a text.
 
-use pw_graph::{ActivationStatus, AreaStatus, Event, NO_BLOCK, cycle_of, event_of, event_word, io_id_of, io_status_of, io_word, status_of, status_word};
+use pw_graph::{
+    ActivationStatus, AreaStatus, Event, NO_BLOCK, cycle_of, event_of, event_word, io_id_of,
+    io_status_of, io_word, status_of, status_word,
+};
 use pw_lists::{Items, Memory, append_decimal};
 use std::alloc::Global;
 use std::test::Fail;

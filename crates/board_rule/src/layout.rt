@@ -6,7 +6,9 @@ ghost use Rattle.pw_graph.specs.Words.{not_triggered_word};
 ghost use Rattle.pw_graph.specs.Layout.{start_words, io_start, pool_words, pool_start};
 
 use crate::steps::statuses::not_triggered;
-use pw_graph::{AreaStatus, NO_BLOCK, PoolShape, PortId, Shape, ShapeLink, io_word, is_same_port, pools_of};
+use pw_graph::{
+    AreaStatus, NO_BLOCK, PoolShape, PortId, Shape, ShapeLink, io_word, is_same_port, pools_of,
+};
 use pw_lists::{Items, Memory};
 use std::alloc::Global;
 

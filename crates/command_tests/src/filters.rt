@@ -1,8 +1,7 @@
 //! Formats in files: what `filter` stores and prints, and why a file is refused.
 ghost use Rattle.std.specs.Prelude.{◌≤◌};
 
-use pw_lists::Which;
-use pw_lists::{Items, Memory};
+use pw_lists::{Items, Memory, Which};
 use pw_top::{PodWhy, Status};
 use row_files::{Faults, Held, RUN, Row, SURE, first_unlike, is_so_with};
 use std::alloc::Global;

@@ -2,8 +2,7 @@
 
 use fault_messages::message;
 use graph_script::ScriptWhy;
-use pw_lists::Which;
-use pw_lists::{Items, Memory};
+use pw_lists::{Items, Memory, Which};
 use pw_top::{PodWhy, Status};
 use row_files::words_of;
 use std::alloc::Global;

@@ -8,8 +8,7 @@ ghost use Rattle.control_sequence.specs.Automation.{ArePoints};
 use crate::fault::ControlFault;
 use crate::points::{Point, Points};
 use pod_codec::{Control, Pod, Prop};
-use pw_lists::GAIN_LIMIT;
-use pw_lists::Items;
+use pw_lists::{GAIN_LIMIT, Items};
 use std::alloc::Global;
 
 /// The object type Props. Source: `spa/utils/type.h`.

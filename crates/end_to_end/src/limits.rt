@@ -1,8 +1,7 @@
 //! Runs up to a limit, and above one, each refused at the line that passes it.
 
 use graph_script::ScriptWhy;
-use pw_lists::Which;
-use pw_lists::{Items, Memory};
+use pw_lists::{Items, Memory, Which};
 use pw_top::Status;
 use row_files::{RUN, Row, first_unlike, is_so_with};
 use std::alloc::Global;

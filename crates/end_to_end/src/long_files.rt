@@ -1,7 +1,6 @@
 //! Waves that are longer than they may be, one and all together.
 
-use pw_lists::Which;
-use pw_lists::{Items, Memory, Text};
+use pw_lists::{Items, Memory, Text, Which};
 use pw_outside::{FileFail, Files, Loaded};
 use pw_top::Status;
 use row_files::{LongFiles, SCRIPT, SURE, ends_so};

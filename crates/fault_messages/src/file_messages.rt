@@ -3,8 +3,7 @@ ghost use Rattle.std.specs.Prelude.{◌≡◌, ◌++◌, option_copied, OnOk};
 ghost use Rattle.fault_messages.specs.FileMessages.{wav_said, limit_said, is_of_file, limit_text};
 
 use crate::places::put_file;
-use pw_lists::Which;
-use pw_lists::{Memory, Text};
+use pw_lists::{Memory, Text, Which};
 use wav_files::WavFault;
 
 /// Why a WAV file is refused.

@@ -2,8 +2,7 @@
 ghost use Rattle.std.specs.Prelude.{◌≡◌, IfOk};
 ghost use Rattle.first_load.specs.FirstLoad.{first_of};
 
-use pw_lists::SCRIPT_BYTES_LIMIT;
-use pw_lists::{Memory, Text};
+use pw_lists::{Memory, SCRIPT_BYTES_LIMIT, Text};
 use pw_outside::{FileFail, Loaded};
 use std::alloc::Global;
 

@@ -10,8 +10,7 @@ use crate::wire::Wire;
 use link_negotiation::Links;
 use port_model::Ports;
 use pw_graph::{Epoch, Kind, LineOutcome, LinkLine, PortId};
-use pw_lists::Which;
-use pw_lists::{Items, Memory};
+use pw_lists::{Items, Memory, Which};
 use std::alloc::Global;
 
 /// The graph as the lines so far have made it, and the epochs that they had.

@@ -11,8 +11,7 @@ use crate::wire::Wire;
 use link_negotiation::Linked;
 use port_model::Ports;
 use pw_graph::{LineOutcome, PortId};
-use pw_lists::Which;
-use pw_lists::Memory;
+use pw_lists::{Memory, Which};
 
 // The form of a port that has its format.
 pub(crate) fn form_at(ports: &Ports, port: PortId) -> (u32, u32)

@@ -11,8 +11,7 @@ use crate::draining::drain_cycles;
 use crate::graph::{Graph, Stepped};
 use crate::limits::judge;
 use graph_script::Command;
-use pw_lists::EVENTS_LIMIT;
-use pw_lists::{Items, Memory};
+use pw_lists::{EVENTS_LIMIT, Items, Memory};
 use wav_files::WavIn;
 
 /// A number of cycles that passes the limit of events: a cycle has three.

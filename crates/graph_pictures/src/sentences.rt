@@ -5,8 +5,7 @@ ghost use Rattle.graph_pictures.specs.Sentences.{shown_byte, file_word, wav_said
 
 use crate::filling::fill;
 use crate::status::Status;
-use pw_lists::Which;
-use pw_lists::{Items, Memory, Text};
+use pw_lists::{Items, Memory, Text, Which};
 use std::alloc::Global;
 use wav_files::WavFault;
 

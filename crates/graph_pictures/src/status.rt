@@ -4,8 +4,7 @@ ghost use Rattle.graph_pictures.specs.StatusText.{status_number, which_in, why_f
 
 use crate::filling::fill;
 use graph_script::ScriptWhy;
-use pw_lists::Which;
-use pw_lists::{Memory, Text};
+use pw_lists::{Memory, Text, Which};
 use wav_files::WavFault;
 
 /// How a call ended. A place is 0 for the script, 4294967295 for the trace, and 1 for a WAV file.

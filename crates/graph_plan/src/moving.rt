@@ -8,8 +8,7 @@ use crate::member::Member;
 use graph_lines::{Stepped, Sums};
 use graph_script::Line;
 use pw_graph::Epoch;
-use pw_lists::Which;
-use pw_lists::{Items, Memory};
+use pw_lists::{Items, Memory, Which};
 use std::alloc::Global;
 use wav_files::WavIn;
 

@@ -6,8 +6,7 @@ ghost use Rattle.graph_script.specs.Checked.{list_arg};
 
 use crate::fault::ScriptWhy;
 use crate::numbers::number_within;
-use pw_lists::CHANNELS_LIMIT;
-use pw_lists::{Items, Memory, next_piece};
+use pw_lists::{CHANNELS_LIMIT, Items, Memory, next_piece};
 use std::alloc::Global;
 
 // The numbers of a list, each below `channels`, parted by single commas: at most as many as a port

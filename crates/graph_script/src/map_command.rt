@@ -18,8 +18,7 @@ use crate::nodes::new_node;
 use crate::numbers::number_in;
 use crate::reading::{Reading, Said};
 use pw_graph::Kind;
-use pw_lists::CHANNELS_LIMIT;
-use pw_lists::{Items, Memory};
+use pw_lists::{CHANNELS_LIMIT, Items, Memory};
 use std::alloc::Global;
 
 // A new map before its list: its number, its name, the channels and the word of the list.

@@ -9,8 +9,7 @@ use crate::fault::ScriptWhy;
 use crate::limits::NODES_LIMIT;
 use crate::reading::{Made, NewNode, Reading, Said};
 use pw_graph::Kind;
-use pw_lists::Which;
-use pw_lists::{Items, Memory};
+use pw_lists::{Items, Memory, Which};
 use std::alloc::Global;
 
 /// A node of this name and kind, where there is room for it.

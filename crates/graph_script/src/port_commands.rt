@@ -14,8 +14,7 @@ use crate::numbers::number_in;
 use crate::progress::{Progress, is_linked};
 use crate::reading::{Reading, Said};
 use pw_graph::PortId;
-use pw_lists::BUFFERS_LIMIT;
-use pw_lists::{Items, Memory};
+use pw_lists::{BUFFERS_LIMIT, Items, Memory};
 use std::alloc::Global;
 
 // An offer before memory is taken: its port and its file.

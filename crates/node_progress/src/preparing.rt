@@ -12,8 +12,7 @@ use crate::restarting::{fresh_in, restart_in};
 use crate::score::Score;
 use node_state::NodeState;
 use pw_graph::Plan;
-use pw_lists::QUANTUM_LIMIT;
-use pw_lists::{Items, Memory};
+use pw_lists::{Items, Memory, QUANTUM_LIMIT};
 use std::alloc::Global;
 use wav_files::{Wav, WavIn};
 

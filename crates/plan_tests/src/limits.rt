@@ -2,8 +2,7 @@
 
 use crate::showing::{Part, expect_limit, expect_part};
 use crate::texts::plan_text;
-use pw_lists::Which;
-use pw_lists::Memory;
+use pw_lists::{Memory, Which};
 use std::test::Fail;
 
 // Each cycle of the built-in driver alone has five events, of which there may be 4,194,304.

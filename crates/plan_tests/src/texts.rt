@@ -10,8 +10,7 @@ use crate::silence::Silence;
 use graph_plan::{PlanFault, part_nodes, parts, plan};
 use graph_script::{Script, parse};
 use pw_graph::{Parts, Plan};
-use pw_lists::SCRIPT_BYTES_LIMIT;
-use pw_lists::{Items, Memory};
+use pw_lists::{Items, Memory, SCRIPT_BYTES_LIMIT};
 use std::alloc::Global;
 
 /// Why a text has no plan.

@@ -13,8 +13,7 @@ use crate::fault::WriteFault;
 use crate::pod::Pod;
 use crate::pod_type::size_of_child;
 use crate::scalars::{put_element, put_pair};
-use pw_lists::POD_BYTES_LIMIT;
-use pw_lists::{Items, Memory};
+use pw_lists::{Items, Memory, POD_BYTES_LIMIT};
 
 /// How many levels of values a POD may have.
 pub const MAX_DEPTH: u32 = 16;

@@ -3,8 +3,7 @@
 use crate::exit_of;
 use graph_pictures::{Status, explain, print_picture};
 use graph_script::ScriptWhy;
-use pw_lists::Which;
-use pw_lists::{Items, Memory, Text};
+use pw_lists::{Items, Memory, Text, Which};
 use pw_outside::{SureFiles, SureSink};
 use std::alloc::Global;
 use std::process::Abort;

@@ -18,8 +18,7 @@ use crate::loading::load_step;
 use crate::script_loads::load_all;
 use crate::status::Status;
 use graph_script::{Script, ScriptFault, parse};
-use pw_lists::{SCRIPT_BYTES_LIMIT, Which};
-use pw_lists::{Items, Text};
+use pw_lists::{Items, SCRIPT_BYTES_LIMIT, Text, Which};
 use pw_outside::Files;
 use std::alloc::Global;
 

@@ -5,8 +5,7 @@ ghost use Rattle.pw_top.specs.working.Ending.{CommandCause};
 ghost use Rattle.pw_top.specs.working.Preparing.{LoadsOnly, Tells};
 
 use crate::status::Status;
-use pw_lists::Which;
-use pw_lists::{Items, Text};
+use pw_lists::{Items, Text, Which};
 use pw_outside::{FileFail, Files, Loaded};
 use std::alloc::Global;
 

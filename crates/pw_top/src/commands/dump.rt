@@ -10,8 +10,7 @@ use crate::preparing::Prepare;
 use crate::status::Status;
 use crate::work::Work;
 use pod_codec::{Pod, dump_text};
-use pw_lists::Which;
-use pw_lists::{Items, Text};
+use pw_lists::{Items, Text, Which};
 use pw_outside::Files;
 use std::alloc::Global;
 

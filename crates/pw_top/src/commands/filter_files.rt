@@ -21,8 +21,7 @@ use crate::status::Status;
 use crate::work::{Content, Store, Work};
 use format_filter::{Filtered, Format, filter, pod_of};
 use pod_codec::{Pod, WriteFault, write_pod};
-use pw_lists::Which;
-use pw_lists::{Items, Memory, Text, append_decimal};
+use pw_lists::{Items, Memory, Text, Which, append_decimal};
 use pw_outside::Files;
 use std::alloc::Global;
 
