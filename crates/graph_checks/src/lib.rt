@@ -1,7 +1,7 @@
 //! Plans, shapes and histories held against their definitions, by calls: `is_sound_plan`,
-//! `is_sound_shape`, `is_pooled_shape` and `is_legal_history` are true exactly where the definitions
-//! of pw_graph say so. They are for tests and for hosts that make a plan or a shape of their own; no
-//! crate of the engine calls them.
+//! `is_sound_shape`, `is_pooled_shape` and `is_legal_history` are true exactly where the
+//! definitions of pw_graph say so. They are for tests and for hosts that make a plan or a shape of
+//! their own; no crate of the engine calls them.
 #![tactic(auto)]
 
 mod cycle_history;

@@ -1,8 +1,8 @@
 //! What a graph is, and what happened in it: the types and definitions that all layers share.
 //!
-//! `Plan`, `Shape` and `Event` say what a script asks for, what one epoch is, and what happened. The
-//! definitions in `specs/` say which of them are sound and legal, what one sample and each kind of
-//! node is, and where the words of a board are; graph_checks decides the first by calls.
+//! `Plan`, `Shape` and `Event` say what a script asks for, what one epoch is, and what happened.
+//! The definitions in `specs/` say which of them are sound and legal, what each kind of node makes,
+//! and where the words of a board are; graph_checks decides the first by calls.
 #![tactic(auto)]
 
 mod event;
