@@ -17,8 +17,8 @@ use Rattle.board_rule.specs.buffers.Areas.{stored_id}
 use Rattle.board_rule.specs.buffers.Spans.{spans}
 use Rattle.board_rule.specs.buffers.EndViews.{link_at, pool_at, pool_of, reader_of, read_of}
 use Rattle.board_rule.specs.buffers.ReaderSteps.{words_read_of, read_cycle, IsReader}
-use Rattle.board_rule.proofs.buffers.WiringLemmas.{wired}
-use Rattle.board_rule.proofs.buffers.PaceLemmas.{paces}
+use Rattle.board_rule.proofs.buffers.WiredLemmas.{wired}
+use Rattle.board_rule.proofs.buffers.PacedLemmas.{paces}
 use Rattle.board_rule.proofs.buffers.HolderLemmas.{got, link_there, pool_here, now_running}
 use Rattle.board_rule.proofs.buffers.AreaLemmas.{wrote_now}
 use Rattle.board_progress.specs.Moves.{Move}

@@ -19,7 +19,7 @@ use Rattle.board_rule.specs.buffers.Spans.{block_at, spans}
 use Rattle.board_rule.specs.buffers.EndViews.{pool_at, filler_of, block_of}
 use Rattle.board_rule.specs.buffers.BlockSteps.{fill_cycle}
 use Rattle.board_rule.specs.buffers.ReclaimSteps.{LoadsReaders, reclaimed_of}
-use Rattle.board_rule.proofs.buffers.WiringLemmas.{wired}
+use Rattle.board_rule.proofs.buffers.WiredLemmas.{wired}
 use Rattle.board_rule.proofs.buffers.HolderLemmas.{got, pool_there, now_running}
 use Rattle.board_rule.proofs.buffers.ReclaimLemmas.{due_out}
 use Rattle.board_progress.specs.Moves.{Move, moved}

@@ -28,7 +28,7 @@ use Rattle.board_rule.specs.buffers.SampleWords.{samples_in}
 use Rattle.board_rule.specs.buffers.EndViews.{pool_at, pool_of, link_at, filler_of}
 use Rattle.board_rule.specs.buffers.BlockSteps.{fill_cycle}
 use Rattle.board_rule.proofs.events.TicketLemmas.{few_tickets}
-use Rattle.board_rule.proofs.buffers.WiringLemmas.{PoolAt, pool_source, wired}
+use Rattle.board_rule.proofs.buffers.WiredLemmas.{PoolAt, pool_source, wired}
 use Rattle.board_rule.proofs.buffers.HolderLemmas.{pool_there, pool_here, link_there}
 use Rattle.board_progress.specs.Moves.{Move, moved}
 use Rattle.board_progress.specs.NodeAdvances.{NodeAdvances}

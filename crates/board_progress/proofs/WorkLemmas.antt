@@ -21,7 +21,7 @@ use Rattle.board_rule.specs.Steps.{HasNode, IsRunning, cycle_of}
 use Rattle.board_rule.specs.BoardRule.{Holds}
 use Rattle.board_rule.specs.activation.Phases.{PhaseOk}
 use Rattle.board_rule.specs.buffers.EndViews.{link_at, pool_at, pool_of, writer_of, reader_of, filler_of, write_of, read_of}
-use Rattle.board_rule.proofs.buffers.WiringLemmas.{Wired, wired}
+use Rattle.board_rule.proofs.buffers.WiredLemmas.{Wired, wired}
 use Rattle.board_rule.proofs.buffers.HolderLemmas.{link_is, link_there, pool_here}
 use Rattle.board_progress.specs.NodeAdvances.NodeAdvances.{finishes}
 use Rattle.board_progress.specs.Progress.{IsStaffed, IsUnfinished, SomeAdvances}

@@ -30,11 +30,11 @@ use Rattle.board_rule.specs.buffers.EndViews.{no_pool, link_at, pool_at, pool_of
 use Rattle.board_rule.specs.buffers.WriterSteps.{write_cycle}
 use Rattle.board_rule.specs.buffers.BlockSteps.{fill_cycle, IsLoaded, IsWriting, HasBlock}
 use Rattle.board_rule.specs.buffers.ReclaimSteps.{due_stamp}
-use Rattle.board_rule.proofs.buffers.WiringLemmas.{PoolAt, Wired, wired, pool_source, busy_cycles_some}
-use Rattle.board_rule.proofs.buffers.PaceLemmas.{Paced, paces}
+use Rattle.board_rule.proofs.buffers.WiredLemmas.{PoolAt, Wired, wired, pool_source, busy_cycles_some}
+use Rattle.board_rule.proofs.buffers.PacedLemmas.{Paced, paces}
 use Rattle.board_rule.proofs.buffers.HolderLemmas.{got, link_is, link_there, pool_here, now_running}
 use Rattle.board_rule.proofs.buffers.ReclaimLemmas.{busy_cycles_most, reclaimed_most, due_out}
-use Rattle.board_rule.proofs.buffers.FillingLemmas.{finds_none}
+use Rattle.board_rule.proofs.buffers.BlockStepsLemmas.{finds_none}
 use Rattle.board_rule.proofs.buffers.PoolWordLemmas.{pools_have_words}
 use Rattle.board_progress.specs.BufferAdvances.BufferAdvances.{loads_as_writer, loads_readers, stores_sample, stores_readers, stores_have}
 use Rattle.board_progress.specs.Progress.{SomeAdvances}

@@ -1,11 +1,11 @@
 pub mod SumLemmas
-pub mod GrowthLemmas
+pub mod GrowingListLemmas
 pub mod RunLemmas
 pub mod DriverLemmas
 pub mod LeadLemmas
-pub mod FrameLemmas
-pub mod AllowLemmas
-pub mod DriveLemmas
+pub mod LeadEventsLemmas
+pub mod EventStepsLemmas
+pub mod LeadDrawsLemmas
 pub mod StepLemmas
 pub mod WordLemmas
 pub mod LayoutLemmas

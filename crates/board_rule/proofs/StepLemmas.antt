@@ -23,16 +23,16 @@ use Rattle.board_rule.specs.events.EventSteps.{looked, StoresLate, late_kept, la
 use Rattle.board_rule.specs.working.Plays.{Leaves, Learns}
 use Rattle.board_rule.proofs.activation.PhaseLemmas.{can_tell, in_debt}
 use Rattle.board_rule.proofs.activation.FollowerLemmas.{lower_allowed, trigger_allowed}
-use Rattle.board_rule.proofs.activation.WorkLemmas.{stores_start, stores_finish, finish_allowed, later_is_other}
+use Rattle.board_rule.proofs.activation.WorkStepsLemmas.{stores_start, stores_finish, finish_allowed, later_is_other}
 use Rattle.board_rule.proofs.events.EventLemmas.{start_logged, finish_logged}
-use Rattle.board_rule.proofs.AllowLemmas.{draw_start_allowed, draw_finish_allowed, store_allowed, draw_lead_allowed, store_lead_allowed}
-use Rattle.board_rule.proofs.AllowLemmas.{look_allowed}
+use Rattle.board_rule.proofs.EventStepsLemmas.{draw_start_allowed, draw_finish_allowed, store_allowed, draw_lead_allowed, store_lead_allowed}
+use Rattle.board_rule.proofs.EventStepsLemmas.{look_allowed}
 use Rattle.board_rule.proofs.activation.ClaimLemmas.{claim_allowed}
 use Rattle.board_rule.proofs.DriverLemmas.{kick_allowed, kick_trigger_allowed, can_kick, kick_in_debt}
 use Rattle.board_rule.proofs.activation.ResetLemmas.{store_pending_allowed, store_not_triggered_allowed}
 use Rattle.board_rule.proofs.activation.CycleLemmas.{finish_lead_allowed, claim_lead_allowed}
 use Rattle.board_rule.proofs.buffers.SpanLemmas.{IsLogWord, draws_paced, stores_paced, drive_paced}
-use Rattle.board_rule.proofs.DriveLemmas.{draws_more, draws_looks, draws_goes, draws_logs, stores_goes, stores_logs, late_goes, late_logs}
+use Rattle.board_rule.proofs.LeadDrawsLemmas.{draws_more, draws_looks, draws_goes, draws_logs, stores_goes, stores_logs, late_goes, late_logs}
 
 module _ (p : BoardLayout) {S : Type 0} (slots id : ℕ) (me : Me S View) (after : ℕ → View) where
   pub lowers : (says : ℕ → Type 0) (b : Bool) (m n : ℕ) → Lowers b p me.0 m → get_or (p.targets m) (taken b me.0 m) 0 ≡ n

@@ -3,10 +3,9 @@ pub mod LeftLemmas
 pub mod PhaseLemmas
 pub mod ProgressLemmas
 pub mod FollowerLemmas
-pub mod WorkLemmas
+pub mod WorkStepsLemmas
 pub mod ClaimLemmas
 pub mod ResetLemmas
 pub mod CycleLemmas
 pub mod RowLemmas
-pub mod TellingLemmas
-pub mod AwaitedLemmas
+pub mod UntoldLemmas

@@ -1,10 +1,10 @@
 -- Lemmas on buffers: ends of links, blocks, pools, and each step on them; buffer safety.
 pub mod StoreLemmas
 pub mod PortLemmas
-pub mod WiringLemmas
-pub mod DelayLemmas
-pub mod PaceLemmas
-pub mod StayLemmas
+pub mod WiredLemmas
+pub mod DelayByLemmas
+pub mod PacedLemmas
+pub mod BuffersStayLemmas
 pub mod SpanLemmas
 pub mod HolderLemmas
 pub mod KeepLemmas
@@ -12,11 +12,12 @@ pub mod ReclaimLemmas
 pub mod EndLemmas
 pub mod AreaLemmas
 pub mod BlockLemmas
-pub mod FillingLemmas
+pub mod BlockStepsLemmas
 pub mod ReaderLemmas
-pub mod OldestLemmas
+pub mod BufferReadsLemmas
 pub mod WriterStepLemmas
 pub mod ReaderStepLemmas
 pub mod PoolWordLemmas
 pub mod SafetyLemmas
 pub mod SilenceLemmas
+pub mod ReadersOfLemmas

@@ -15,7 +15,7 @@ use Rattle.board_rule.specs.Layout.{BoardLayout, layout_of, nodes}
 use Rattle.board_rule.specs.buffers.EndViews.{read_of, link_at}
 use Rattle.board_rule.specs.activation.SeatNodes.{HasNode}
 use Rattle.board_rule.specs.activation.WorkSteps.{untold, IsReadyToFinish}
-use Rattle.board_rule.proofs.buffers.WiringLemmas.{wired}
+use Rattle.board_rule.proofs.buffers.WiredLemmas.{wired}
 use Rattle.board_rule.proofs.buffers.HolderLemmas.{link_there}
 use Rattle.activation_words.specs.Calls.{started, worked, HasFinished}
 use Rattle.io_areas.specs.PooledBoard.{IsPooledBoard}

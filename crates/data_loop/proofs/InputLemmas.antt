@@ -26,7 +26,7 @@ use Rattle.board_rule.specs.buffers.SampleWords.{samples_in}
 use Rattle.board_rule.specs.buffers.Areas.{delay_by}
 use Rattle.board_rule.specs.buffers.BlockReadings.{delay_at}
 use Rattle.board_rule.specs.buffers.EndViews.{no_link, no_pool, link_at, pool_at, pool_of}
-use Rattle.board_rule.proofs.buffers.WiringLemmas.{wired}
+use Rattle.board_rule.proofs.buffers.WiredLemmas.{wired}
 use Rattle.board_rule.proofs.buffers.HolderLemmas.{link_is, link_there, pool_there}
 use Rattle.io_areas.specs.PooledBoard.{IsPooledBoard}
 use Rattle.io_areas.specs.Quanta.{quantum_of}

@@ -15,7 +15,7 @@ use Rattle.board_rule.specs.buffers.EndViews.{pool_at, block_of}
 use Rattle.board_rule.specs.buffers.BufferReads.{HasPool}
 use Rattle.board_rule.specs.buffers.BlockSteps.{fill_cycle}
 use Rattle.board_rule.specs.buffers.ReclaimSteps.{IsUnreclaimed, IsDue, readers_loaded}
-use Rattle.board_rule.proofs.buffers.WiringLemmas.{busy_cycles_some}
+use Rattle.board_rule.proofs.buffers.WiredLemmas.{busy_cycles_some}
 use Rattle.io_areas.specs.Queue.{Queue}
 use Rattle.io_areas.specs.Writing.{HasReclaimed, IsUnfilled}
 use Rattle.io_areas.specs.FreeBlocks.{FreeBlocks, recent_count}

@@ -7,7 +7,7 @@ use Rattle.pw_graph.specs.Pools.{pools_of}
 use Rattle.board_rule.specs.Layout.{BoardLayout}
 use Rattle.board_rule.specs.buffers.EndViews.{pool_at, pool_of, writer_of, filler_of}
 use Rattle.board_rule.proofs.buffers.PortLemmas.{differ_at}
-use Rattle.board_rule.proofs.buffers.WiringLemmas.{PoolAt, Wired, wired}
+use Rattle.board_rule.proofs.buffers.WiredLemmas.{PoolAt, Wired, wired}
 use Rattle.board_rule.proofs.buffers.HolderLemmas.{link_is, pool_there, pool_here}
 use Rattle.io_areas.specs.PooledBoard.{IsPooledBoard}
 

@@ -28,13 +28,13 @@ use Rattle.board_rule.specs.BoardRule.{Holds}
 use Rattle.board_rule.specs.working.Plays.{Leaves}
 use Rattle.board_rule.proofs.buffers.SpanLemmas.{drive_paced, lead_begun, wired_in, over_at, over_lead, begun_lead, begun_lead_put, early_word}
 use Rattle.board_rule.proofs.buffers.HolderLemmas.{is_ready, holder_leads}
-use Rattle.board_rule.proofs.buffers.PaceLemmas.{paces}
+use Rattle.board_rule.proofs.buffers.PacedLemmas.{paces}
 use Rattle.board_rule.proofs.events.FinishLemmas.{buffers_finish}
 use Rattle.board_rule.proofs.SumLemmas.{total_zero, total_at}
 use Rattle.board_rule.proofs.RunLemmas.{Sums, keeps as stays, wakes, finishes}
 use Rattle.board_rule.proofs.events.MarkLemmas.{quiet_drive}
 use Rattle.board_rule.proofs.activation.FollowerLemmas.{rest_at, owing_at, stage_at, words_run}
-use Rattle.board_rule.proofs.activation.WorkLemmas.{IsOther}
+use Rattle.board_rule.proofs.activation.WorkStepsLemmas.{IsOther}
 use Rattle.board_rule.proofs.activation.ClaimLemmas.{remembers}
 use Rattle.board_rule.proofs.DriverLemmas.{lead_to, lead_is, holds_lead, holds_lead_by, active_lead, runs_within, rest_driver, owing_driver}
 use Rattle.board_rule.proofs.DriverLemmas.{stage_driver, beside}

@@ -18,9 +18,9 @@ use Rattle.board_rule.specs.start.StartViews.{Samples}
 use Rattle.board_rule.specs.buffers.Areas.{delay_by, area_of, stored_id, Span}
 use Rattle.board_rule.specs.buffers.BufferRule.{NamesBlocks, Buffers}
 use Rattle.board_rule.specs.buffers.BlockReadings.{Ends, is_busy, stamp, delay_at}
-use Rattle.board_rule.proofs.buffers.WiringLemmas.{LinkAt, PoolAt, Wired, late_is}
-use Rattle.board_rule.proofs.buffers.DelayLemmas.{delay_most, same_area, area_most, areas_differ}
-use Rattle.board_rule.proofs.buffers.PaceLemmas.{Paced}
+use Rattle.board_rule.proofs.buffers.WiredLemmas.{LinkAt, PoolAt, Wired, late_is}
+use Rattle.board_rule.proofs.buffers.DelayByLemmas.{delay_most, same_area, area_most, areas_differ}
+use Rattle.board_rule.proofs.buffers.PacedLemmas.{Paced}
 use Rattle.board_rule.proofs.buffers.ReclaimLemmas.{reclaimed_most, reclaimed_now}
 use Rattle.board_rule.proofs.buffers.EndLemmas.{with_write, with_read, LinkIs, buffers_write, buffers_turn}
 

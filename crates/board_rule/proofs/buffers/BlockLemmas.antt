@@ -16,8 +16,8 @@ use Rattle.board_rule.specs.buffers.Areas.{stored_id}
 use Rattle.board_rule.specs.buffers.BufferRule.{NamesBlocks, BlockOk, Reclaims, PoolOk, Buffers}
 use Rattle.board_rule.specs.buffers.BlockReadings.{Ends, is_busy, stamp, delay_at, busy_cycles}
 use Rattle.board_rule.proofs.start.SeatLemmas.{put_here, put_else}
-use Rattle.board_rule.proofs.buffers.WiringLemmas.{PoolAt, Wired, busy_cycles_some}
-use Rattle.board_rule.proofs.buffers.DelayLemmas.{link_stays}
+use Rattle.board_rule.proofs.buffers.WiredLemmas.{PoolAt, Wired, busy_cycles_some}
+use Rattle.board_rule.proofs.buffers.DelayByLemmas.{link_stays}
 
 -- what is known after a step on the block b of the pool q, and where it is free since the cycle before r
 abbrev pub with_block : Ends → ℕ → ℕ → BlockView → Ends

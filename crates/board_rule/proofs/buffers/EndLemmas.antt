@@ -15,9 +15,9 @@ use Rattle.board_rule.specs.buffers.Areas.{delay_by, Span, LinkOk}
 use Rattle.board_rule.specs.buffers.BufferRule.{NamesBlocks, Buffers}
 use Rattle.board_rule.specs.buffers.BlockReadings.{Ends, delay_at, readers_of}
 use Rattle.board_rule.proofs.start.SeatLemmas.{put_here, put_else}
-use Rattle.board_rule.proofs.buffers.WiringLemmas.{LinkAt, PoolAt, Wired}
-use Rattle.board_rule.proofs.buffers.DelayLemmas.{link_stays}
-use Rattle.board_rule.proofs.activation.AwaitedLemmas.{waits, readers_same}
+use Rattle.board_rule.proofs.buffers.WiredLemmas.{LinkAt, PoolAt, Wired}
+use Rattle.board_rule.proofs.buffers.DelayByLemmas.{link_stays}
+use Rattle.board_rule.proofs.buffers.ReadersOfLemmas.{waits, readers_same}
 
 -- what is known after a step of a writer or of a reader of the link l
 abbrev pub with_write : Ends → ℕ → WriteView → Ends

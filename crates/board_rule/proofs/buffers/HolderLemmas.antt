@@ -47,7 +47,7 @@ use Rattle.board_rule.proofs.buffers.SpanLemmas.{over_at, begun_at, over_lead, b
 use Rattle.board_rule.proofs.activation.FollowerLemmas.{same_node}
 use Rattle.board_rule.proofs.DriverLemmas.{lead_is}
 use Rattle.board_rule.proofs.buffers.PortLemmas.{has_id, few_ports}
-use Rattle.board_rule.proofs.buffers.WiringLemmas.{LinkAt, PoolAt, Wired, wired, pool_source}
+use Rattle.board_rule.proofs.buffers.WiredLemmas.{LinkAt, PoolAt, Wired, wired, pool_source}
 use Rattle.board_rule.proofs.events.FinishLemmas.{Ready}
 
 pub got : {A : Type 0} (l : List A) (i : ℕ) (a d : A) → get_elem? l i ≡ some a → get_or l i d ≡ a

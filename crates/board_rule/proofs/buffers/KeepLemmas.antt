@@ -19,7 +19,7 @@ use Rattle.board_rule.specs.buffers.BlockReadings.{Ends}
 use Rattle.board_rule.specs.buffers.Spans.{spans}
 use Rattle.board_rule.specs.BoardRule.{Seated, Holds}
 use Rattle.board_rule.proofs.events.TicketLemmas.{few_tickets}
-use Rattle.board_rule.proofs.buffers.StayLemmas.{IsBufferWord}
+use Rattle.board_rule.proofs.buffers.BuffersStayLemmas.{IsBufferWord}
 use Rattle.board_rule.proofs.buffers.HolderLemmas.{with_ends}
 
 module _ (p : BoardLayout) where

@@ -11,7 +11,7 @@ use Rattle.pw_graph.specs.Pools.{is_same_port, links_from, channels_of, IsPooled
 use Rattle.pw_graph.proofs.PoolLemmas.{port_same}
 use Rattle.pw_graph.proofs.PrecedenceLemmas.{holds_at}
 use Rattle.board_rule.specs.Layout.{BoardLayout, IsSound}
-use Rattle.board_rule.proofs.buffers.WiringLemmas.{PoolAt, wired, pool_source}
+use Rattle.board_rule.proofs.buffers.WiredLemmas.{PoolAt, wired, pool_source}
 
 most_from : (a : ℕ) (xs : List ShapeLink) → a ≤ fold (λ top l. max top l.channels) a xs
 most_from a [] = omega arith

@@ -17,11 +17,11 @@ use Rattle.board_rule.specs.buffers.Areas.{delay_by, area_of, stored_id, Span}
 use Rattle.board_rule.specs.buffers.BufferRule.{BlockOk, Buffers}
 use Rattle.board_rule.specs.buffers.BlockReadings.{Ends, is_busy, stamp, filled, delay_at, waiting, readers_of}
 use Rattle.board_rule.proofs.start.SeatLemmas.{put_here, put_else}
-use Rattle.board_rule.proofs.buffers.WiringLemmas.{LinkAt, PoolAt, Wired, late_is}
-use Rattle.board_rule.proofs.buffers.DelayLemmas.{delay_most, area_most}
-use Rattle.board_rule.proofs.buffers.PaceLemmas.{Paced}
+use Rattle.board_rule.proofs.buffers.WiredLemmas.{LinkAt, PoolAt, Wired, late_is}
+use Rattle.board_rule.proofs.buffers.DelayByLemmas.{delay_most, area_most}
+use Rattle.board_rule.proofs.buffers.PacedLemmas.{Paced}
 use Rattle.board_rule.proofs.buffers.ReclaimLemmas.{reclaimed_most}
-use Rattle.board_rule.proofs.activation.AwaitedLemmas.{waits, waits_one, waits_none, waits_same, readers_same, waiting_change, waiting_has}
+use Rattle.board_rule.proofs.buffers.ReadersOfLemmas.{waits, waits_one, waits_none, waits_same, readers_same, waiting_change, waiting_has}
 use Rattle.board_rule.proofs.buffers.EndLemmas.{with_read, LinkIs, buffers_read}
 use Rattle.board_rule.proofs.buffers.AreaLemmas.{wrote_now}
 

@@ -25,9 +25,9 @@ use Rattle.board_rule.specs.buffers.ReaderSteps.{read_cycle, read_area, LoadsAsR
 use Rattle.board_rule.specs.buffers.ReaderSteps.{LowersReaders, readers_lowered}
 use Rattle.board_rule.specs.buffers.ReaderSteps.{samples_read, StoresNeed, need_stored}
 use Rattle.board_rule.specs.working.Plays.{Leaves, Learns}
-use Rattle.board_rule.proofs.buffers.WiringLemmas.{LinkAt, Wired, late_is}
-use Rattle.board_rule.proofs.buffers.DelayLemmas.{area_most}
-use Rattle.board_rule.proofs.buffers.PaceLemmas.{Paced, paces}
+use Rattle.board_rule.proofs.buffers.WiredLemmas.{LinkAt, Wired, late_is}
+use Rattle.board_rule.proofs.buffers.DelayByLemmas.{area_most}
+use Rattle.board_rule.proofs.buffers.PacedLemmas.{Paced, paces}
 use Rattle.board_rule.proofs.buffers.SpanLemmas.{node_over, node_begun, over_at, begun_at, wired_in}
 use Rattle.board_rule.proofs.start.SeatLemmas.{set_there, reads_set, words_step}
 use Rattle.board_rule.proofs.buffers.HolderLemmas.{got, link_there, pool_here, now_running, with_ends, new_read, read_step}

@@ -15,7 +15,7 @@ use Rattle.board_rule.specs.start.StartViews.{Samples}
 use Rattle.board_rule.specs.buffers.Areas.{stored_id, Span}
 use Rattle.board_rule.specs.buffers.BufferRule.{Reclaims, Buffers}
 use Rattle.board_rule.specs.buffers.BlockReadings.{Ends, is_busy, stamp, delay_at, busy_cycles}
-use Rattle.board_rule.proofs.buffers.WiringLemmas.{PoolAt, Wired, late_is, busy_cycles_some, delayed_link}
+use Rattle.board_rule.proofs.buffers.WiredLemmas.{PoolAt, Wired, late_is, busy_cycles_some, delayed_link}
 
 pub busy_cycles_most : (p : BoardLayout) (x : PoolShape) → busy_cycles p x ≤ 2
 busy_cycles_most p x = by (list_any (λ k. k.delayed) (links_from p.shape x.port))

@@ -21,8 +21,8 @@ use Rattle.board_rule.specs.buffers.Areas.{delay_by}
 use Rattle.board_rule.specs.buffers.BufferReads.{HasPool}
 use Rattle.board_rule.specs.buffers.ReaderSteps.{stamp_read, ReadsBlock}
 use Rattle.board_rule.specs.buffers.BufferSafety.{AreSafe}
-use Rattle.board_rule.proofs.buffers.WiringLemmas.{LinkAt, PoolAt, Wired, wired, late_is}
-use Rattle.board_rule.proofs.buffers.PaceLemmas.{paces}
+use Rattle.board_rule.proofs.buffers.WiredLemmas.{LinkAt, PoolAt, Wired, wired, late_is}
+use Rattle.board_rule.proofs.buffers.PacedLemmas.{paces}
 use Rattle.board_rule.proofs.buffers.HolderLemmas.{got, link_there, pool_here, now_running}
 use Rattle.board_rule.proofs.buffers.ReaderLemmas.{reads_block, finds_some}
 

@@ -21,8 +21,8 @@ use Rattle.board_rule.specs.buffers.Spans.{spans, phase_over, phase_begun, drive
 use Rattle.board_rule.specs.BoardRule.{Seated}
 use Rattle.board_rule.specs.events.EventSteps.{CanDrawLead, lead_draws, CanStoreLead, lead_stores}
 use Rattle.board_rule.proofs.start.SeatLemmas.{put_here, put_else}
-use Rattle.board_rule.proofs.buffers.WiringLemmas.{Wired, wired}
-use Rattle.board_rule.proofs.buffers.StayLemmas.{SameBuffers, buffers_stay}
+use Rattle.board_rule.proofs.buffers.WiredLemmas.{Wired, wired}
+use Rattle.board_rule.proofs.buffers.BuffersStayLemmas.{SameBuffers, buffers_stay}
 
 -- the cycles that a follower, or the driver's node, has ended and begun
 abbrev pub node_over : NodeView → ℕ

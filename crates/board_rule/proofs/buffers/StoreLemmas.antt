@@ -18,7 +18,7 @@ use Rattle.board_rule.specs.events.Logged.{IsHeld, Tickets, Earlier, Inside}
 use Rattle.board_rule.specs.events.Records.{Records, Marks, so_far}
 use Rattle.board_rule.proofs.events.LogLemmas.{tickets_drawn, tickets_stored, inside_more}
 use Rattle.board_rule.proofs.events.LateLemmas.{told_late, tickets_late, earlier_late, inside_late, late_bits}
-use Rattle.board_rule.proofs.events.LegalLemmas.{earlier_ends}
+use Rattle.board_rule.proofs.events.LegalCycleLemmas.{earlier_ends}
 use Rattle.board_rule.proofs.start.SeatLemmas.{put_here}
 use Rattle.board_rule.proofs.events.DrawLemmas.{Logs, none_in, first_in, only_in}
 

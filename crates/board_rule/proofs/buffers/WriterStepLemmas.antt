@@ -32,9 +32,9 @@ use Rattle.board_rule.specs.buffers.BlockSteps.{readers_stored}
 use Rattle.board_rule.specs.buffers.ReclaimSteps.{reclaimed_of, due_stamp, LoadsReaders, FindsDue, readers_loaded}
 use Rattle.board_rule.specs.working.Plays.{Leaves, Learns}
 use Rattle.board_rule.proofs.LayoutLemmas.{count_is}
-use Rattle.board_rule.proofs.buffers.WiringLemmas.{late_is}
-use Rattle.board_rule.proofs.buffers.DelayLemmas.{area_most}
-use Rattle.board_rule.proofs.buffers.PaceLemmas.{paces}
+use Rattle.board_rule.proofs.buffers.WiredLemmas.{late_is}
+use Rattle.board_rule.proofs.buffers.DelayByLemmas.{area_most}
+use Rattle.board_rule.proofs.buffers.PacedLemmas.{paces}
 use Rattle.board_rule.proofs.buffers.SpanLemmas.{wired_in}
 use Rattle.board_rule.proofs.buffers.HolderLemmas.{got, link_there, pool_there, pool_here, now_running, new_write, new_block, write_step}
 use Rattle.board_rule.proofs.buffers.HolderLemmas.{block_step, with_ends, new_reclaim, reclaim_step}
@@ -42,7 +42,7 @@ use Rattle.board_rule.proofs.start.SeatLemmas.{set_there}
 use Rattle.board_rule.proofs.buffers.ReclaimLemmas.{busy_cycles_most, due_out}
 use Rattle.board_rule.proofs.buffers.KeepLemmas.{holds_ends}
 use Rattle.board_rule.proofs.buffers.AreaLemmas.{link_is as area_is, finds_need, loads_as_writer, stores_have}
-use Rattle.board_rule.proofs.buffers.FillingLemmas.{IsDue, due_named, due_zero, finds_none, frees, CanFill, fills, announces}
+use Rattle.board_rule.proofs.buffers.BlockStepsLemmas.{IsDue, due_named, due_zero, finds_none, frees, CanFill, fills, announces}
 
 -- a load leaves the words
 pub unread_word : (ws : List ℕ) (i : ℕ) (f : List ℕ → Type 0) → f ws → f (set ws i (get_or ws i 0))

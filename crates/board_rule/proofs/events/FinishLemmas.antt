@@ -14,10 +14,10 @@ use Rattle.board_rule.specs.buffers.SampleWords.{packed, samples_of}
 use Rattle.board_rule.specs.buffers.Areas.{Span}
 use Rattle.board_rule.specs.buffers.BufferRule.{BlockOk, Buffers}
 use Rattle.board_rule.specs.buffers.BlockReadings.{Ends, is_busy, stamp, busy_cycles}
-use Rattle.board_rule.proofs.buffers.WiringLemmas.{LinkAt, PoolAt, Wired, made, busy_cycles_some}
-use Rattle.board_rule.proofs.buffers.DelayLemmas.{link_stays}
-use Rattle.board_rule.proofs.buffers.StayLemmas.{SameBuffers, io_same, readers_same, samples_same}
-use Rattle.board_rule.proofs.buffers.PaceLemmas.{Paced}
+use Rattle.board_rule.proofs.buffers.WiredLemmas.{LinkAt, PoolAt, Wired, made, busy_cycles_some}
+use Rattle.board_rule.proofs.buffers.DelayByLemmas.{link_stays}
+use Rattle.board_rule.proofs.buffers.BuffersStayLemmas.{SameBuffers, io_same, readers_same, samples_same}
+use Rattle.board_rule.proofs.buffers.PacedLemmas.{Paced}
 use Rattle.board_rule.proofs.buffers.ReclaimLemmas.{reclaimed_most}
 
 fill_out : (j n : ℕ) → (let z : BlockView = Filling j in z) ≡ Out n → ⊥

@@ -21,7 +21,7 @@ use Rattle.board_rule.specs.events.Logged.{IsSoFar, IsHeld, Tickets, Earlier, In
 use Rattle.board_rule.specs.events.Records.{Records, Counts, Marks}
 use Rattle.board_rule.proofs.events.BitLemmas.{no_bit, other_bit}
 use Rattle.board_rule.proofs.start.SeatLemmas.{put_here, put_else}
-use Rattle.board_rule.proofs.GrowthLemmas.{count_mapped, first_mapped}
+use Rattle.board_rule.proofs.GrowingListLemmas.{count_mapped, first_mapped}
 
 -- the bits of a late set
 pub late_bits : (c : ℕ) (P : ℕ → Type 0) (fs : List Found) → All (λ f. ¬ (f.word ≡ finished_word c) → P f.node) fs → (n : ℕ)

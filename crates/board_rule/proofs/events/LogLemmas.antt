@@ -18,8 +18,8 @@ use Rattle.board_rule.specs.View.{put}
 use Rattle.board_rule.specs.events.Logged.{IsSoFar, IsHeld, Tickets, Inside}
 use Rattle.board_rule.specs.events.Records.{Records, Counts, Marks}
 use Rattle.board_rule.proofs.start.SeatLemmas.{put_here, put_else}
-use Rattle.board_rule.proofs.GrowthLemmas.{count_more, first_within, first_at_end, first_stays, first_here, first_rises, get_front, get_end}
-use Rattle.board_rule.proofs.GrowthLemmas.{get_cases}
+use Rattle.board_rule.proofs.GrowingListLemmas.{count_more, first_within, first_at_end, first_stays, first_here, first_rises, get_front, get_end}
+use Rattle.board_rule.proofs.GrowingListLemmas.{get_cases}
 
 one_only : {X : Type 0} (P : X → Type 0) (x : X) → P x → All P (x ∷ [])
 one_only P x h zero d l = h

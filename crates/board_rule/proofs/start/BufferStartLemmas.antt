@@ -22,7 +22,7 @@ use Rattle.board_rule.specs.buffers.Areas.{delay_by, area_of, stored_id, Span, L
 use Rattle.board_rule.specs.buffers.BufferRule.{NamesBlocks, BlockOk, PoolOk, Buffers}
 use Rattle.board_rule.specs.buffers.BlockReadings.{Ends, is_busy, stamp, filled, delay_at, busy_cycles, readers_of}
 use Rattle.board_rule.specs.buffers.EndViews.{no_link, no_pool, link_in, pool_in}
-use Rattle.board_rule.proofs.buffers.WiringLemmas.{LinkAt, PoolAt, Wired, busy_cycles_some}
+use Rattle.board_rule.proofs.buffers.WiredLemmas.{LinkAt, PoolAt, Wired, busy_cycles_some}
 
 -- of two words the one that is in the area of the first cycle, and the other
 pick : (f a b : ℕ) → (get_or (cond (f % 2 == 0) (a ∷ b ∷ []) (b ∷ a ∷ [])) (f % 2) 0 ≡ a)

@@ -46,7 +46,7 @@ use Rattle.std.proofs.lemmas.List.Elements.{All-head, All-tail, All-nil}
 use Rattle.std.proofs.lemmas.List.{get_or-replicate, length-replicate}
 use Rattle.board_rule.specs.BoardRule.{Knows, Holds}
 use Rattle.board_rule.proofs.SumLemmas.{total_same}
-use Rattle.board_rule.proofs.buffers.WiringLemmas.{Wired, wired, made}
+use Rattle.board_rule.proofs.buffers.WiredLemmas.{Wired, wired, made}
 use Rattle.board_rule.proofs.start.BufferStartLemmas.{start_ends, buffers_start, buffers_named}
 use Rattle.board_rule.proofs.start.StartWordLemmas.{some_blocks, io_at_start, samples_start, readers_start, readers_first}
 use Rattle.board_rule.specs.buffers.EndViews.{no_link, no_pool}

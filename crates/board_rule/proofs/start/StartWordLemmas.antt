@@ -27,7 +27,7 @@ use Rattle.board_rule.specs.buffers.Areas.{delay_by}
 use Rattle.board_rule.specs.start.StartViews.{is_delayed, first_block, unread}
 use Rattle.board_rule.specs.buffers.BlockReadings.{delay_at, waiting, readers_of}
 use Rattle.board_rule.proofs.LayoutLemmas.{areas_start, two_or_one}
-use Rattle.board_rule.proofs.buffers.WiringLemmas.{pool_source}
+use Rattle.board_rule.proofs.buffers.WiredLemmas.{pool_source}
 
 module _ {X : Type 0} (test : X → Bool) (g : ℕ → ℕ) (h : X → ℕ) where
   -- a sum over the indexes of the elements that pass, and over these elements

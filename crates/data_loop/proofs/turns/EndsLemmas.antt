@@ -13,7 +13,7 @@ use Rattle.pw_graph.specs.Pools.{pools_of}
 use Rattle.board_rule.specs.Layout.{BoardLayout, nodes}
 use Rattle.board_rule.specs.buffers.EndViews.{no_link, no_pool, link_at, pool_at, writer_of, reader_of, filler_of, pool_of}
 use Rattle.board_rule.proofs.buffers.PortLemmas.{Differ, differ_at, indexes_pass, has_index, differ_indexes}
-use Rattle.board_rule.proofs.buffers.WiringLemmas.{Wired, wired, made}
+use Rattle.board_rule.proofs.buffers.WiredLemmas.{Wired, wired, made}
 use Rattle.board_rule.proofs.buffers.HolderLemmas.{link_is, link_there, pool_there, pool_here}
 use Rattle.io_areas.specs.PooledBoard.{IsPooledBoard}
 use Rattle.data_loop.specs.turns.Ends.{reads_of, fills_of}

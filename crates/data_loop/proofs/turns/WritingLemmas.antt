@@ -20,7 +20,7 @@ use Rattle.board_rule.specs.buffers.EndViews.{no_pool, pool_at, filler_of, write
 use Rattle.board_rule.specs.activation.SeatNodes.{IsCycle, IsMember}
 use Rattle.board_rule.specs.buffers.BlockSteps.{fill_cycle}
 use Rattle.board_rule.specs.buffers.ReclaimSteps.{reclaimed_of}
-use Rattle.board_rule.proofs.buffers.WiringLemmas.{wired, busy_cycles_some}
+use Rattle.board_rule.proofs.buffers.WiredLemmas.{wired, busy_cycles_some}
 use Rattle.io_areas.specs.Queue.{Queue}
 use Rattle.io_areas.specs.PooledBoard.{IsPooledBoard}
 use Rattle.io_areas.specs.Ends.{IsWrittenUpTo}

@@ -1,4 +1,4 @@
-use Rattle.board_rule.proofs.activation.TellingLemmas.{all_left}
+use Rattle.board_rule.proofs.activation.UntoldLemmas.{all_left}
 use Rattle.board_rule.proofs.buffers.AreaLemmas.{finds_need}
 use Rattle.board_rule.proofs.left.left_at_start.Goals as goal
 

@@ -1,6 +1,6 @@
 use Rattle.std.proofs.Common.{arith, ◌≡◌, ℕ, ◌<◌, List, length, get_or}
 use Rattle.board_rule.specs.activation.Left.{untold}
-use Rattle.board_rule.proofs.activation.TellingLemmas.{left_more}
+use Rattle.board_rule.proofs.activation.UntoldLemmas.{left_more}
 use Rattle.board_rule.proofs.left.left_of.Goals as goal
 
 pub loop-m-preserved : goal.loop-m-preserved

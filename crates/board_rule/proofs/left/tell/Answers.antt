@@ -1,4 +1,4 @@
-use Rattle.board_rule.proofs.activation.TellingLemmas.{tell_falls, tell_stays}
+use Rattle.board_rule.proofs.activation.UntoldLemmas.{tell_falls, tell_stays}
 use Rattle.board_rule.proofs.left.tell.Goals as goal
 
 pub returns-clause-falls : goal.returns-clause-falls

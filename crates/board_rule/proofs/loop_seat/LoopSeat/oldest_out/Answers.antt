@@ -2,7 +2,7 @@ use Rattle.std.proofs.Common.{arith, ◌≡◌, ◌+◌, Some, None, sym, subst}
 use Rattle.board_rule.specs.Layout.{layout_of}
 use Rattle.board_rule.specs.declared.view.View.{View}
 use Rattle.board_rule.specs.buffers.EndViews.{pool_at}
-use Rattle.board_rule.proofs.buffers.OldestLemmas.{IsOldest, older_next, oldest_is}
+use Rattle.board_rule.proofs.buffers.BufferReadsLemmas.{IsOldest, older_next, oldest_is}
 use Rattle.board_rule.proofs.loop_seat.LoopSeat.oldest_out.Goals as goal
 
 pub loop-id-preserved : goal.loop-id-preserved

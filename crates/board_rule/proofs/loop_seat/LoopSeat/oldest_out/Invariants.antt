@@ -1,5 +1,5 @@
 use Rattle.board_rule.specs.Layout.{layout_of}
-use Rattle.board_rule.proofs.buffers.OldestLemmas.{IsOldest}
+use Rattle.board_rule.proofs.buffers.BufferReadsLemmas.{IsOldest}
 use Rattle.board_rule.proofs.loop_seat.LoopSeat.oldest_out.Given as goal
 
 abbrev pub invariant-loop-id : goal.invariant-loop-id

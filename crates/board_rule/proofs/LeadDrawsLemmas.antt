@@ -21,13 +21,13 @@ use Rattle.board_rule.specs.events.EventSteps.{CanDrawLead, lead_draws, draw_tra
 use Rattle.board_rule.specs.events.EventSteps.{late_kept}
 use Rattle.board_rule.specs.events.Bits.{AreOfNodes}
 use Rattle.std.proofs.lemmas.List.Elements.{All-nil}
-use Rattle.board_rule.proofs.activation.WorkLemmas.{IsOther, ticket_is_other}
+use Rattle.board_rule.proofs.activation.WorkStepsLemmas.{IsOther, ticket_is_other}
 use Rattle.board_rule.proofs.events.DrawLemmas.{first_in, only_in, none_in}
 use Rattle.board_rule.proofs.events.LateLemmas.{told_late}
 use Rattle.board_rule.proofs.events.MarkLemmas.{lead_here}
 use Rattle.board_rule.proofs.DriverLemmas.{stage_driver}
-use Rattle.board_rule.proofs.FrameLemmas.{events_begin, events_end, events_tick, events_lead_start, events_lead_finish}
-use Rattle.board_rule.proofs.events.CheckLemmas.{events_lead_stored, events_late, events_ended}
+use Rattle.board_rule.proofs.LeadEventsLemmas.{events_begin, events_end, events_tick, events_lead_start, events_lead_finish}
+use Rattle.board_rule.proofs.events.CheckStepsLemmas.{events_lead_stored, events_late, events_ended}
 use Rattle.board_rule.proofs.activation.CycleLemmas.{AlikeDrives, active_alike, active_begin, active_reset, active_end}
 
 tick_drawn : AlikeDrives drives.Waiting drives.Checking

@@ -9,8 +9,8 @@ use Rattle.board_rule.specs.buffers.SampleWords.{packed, samples_of}
 use Rattle.board_rule.specs.buffers.Areas.{delay_by, Span}
 use Rattle.board_rule.specs.buffers.BufferRule.{PoolOk, Buffers}
 use Rattle.board_rule.specs.buffers.BlockReadings.{Ends, stamp}
-use Rattle.board_rule.proofs.buffers.WiringLemmas.{LinkAt, PoolAt, Wired, made}
-use Rattle.board_rule.proofs.buffers.DelayLemmas.{link_stays}
+use Rattle.board_rule.proofs.buffers.WiredLemmas.{LinkAt, PoolAt, Wired, made}
+use Rattle.board_rule.proofs.buffers.DelayByLemmas.{link_stays}
 
 module _ (p : BoardLayout) where
   -- the words of the buffer rule: io areas, and the words of pools

@@ -20,7 +20,7 @@ use Rattle.board_rule.proofs.RunLemmas.{begun_told}
 use Rattle.board_rule.proofs.buffers.SpanLemmas.{over_at, begun_at, over_lead, begun_lead}
 use Rattle.board_rule.proofs.activation.FollowerLemmas.{rest_at, stage_at, words_run}
 use Rattle.board_rule.proofs.DriverLemmas.{stage_driver}
-use Rattle.board_rule.proofs.buffers.WiringLemmas.{LinkAt, Wired}
+use Rattle.board_rule.proofs.buffers.WiredLemmas.{LinkAt, Wired}
 
 -- a follower has ended the cycles before the driver's, and begun no later one
 phase_span : (n c next : ℕ) (f : Phase) → PhaseOk n c next f → (c ≤ next + phase_over f) × (next + phase_over f ≤ next + phase_begun f)

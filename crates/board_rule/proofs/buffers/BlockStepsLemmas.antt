@@ -18,9 +18,9 @@ use Rattle.board_rule.specs.buffers.Areas.{stored_id}
 use Rattle.board_rule.specs.View.{put}
 use Rattle.board_rule.specs.buffers.BufferRule.{NamesBlocks, BlockOk, Reclaims, Buffers}
 use Rattle.board_rule.specs.buffers.BlockReadings.{Ends, is_busy, stamp, filled, delay_at, busy_cycles, readers_of}
-use Rattle.board_rule.proofs.buffers.WiringLemmas.{LinkAt, PoolAt, Wired, made, late_is, busy_cycles_some, delayed_link}
-use Rattle.board_rule.proofs.buffers.PaceLemmas.{Paced}
-use Rattle.board_rule.proofs.activation.AwaitedLemmas.{none_waiting, all_waiting}
+use Rattle.board_rule.proofs.buffers.WiredLemmas.{LinkAt, PoolAt, Wired, made, late_is, busy_cycles_some, delayed_link}
+use Rattle.board_rule.proofs.buffers.PacedLemmas.{Paced}
+use Rattle.board_rule.proofs.buffers.ReadersOfLemmas.{none_waiting, all_waiting}
 use Rattle.board_rule.proofs.buffers.ReclaimLemmas.{reclaimed_most}
 use Rattle.board_rule.proofs.start.SeatLemmas.{put_here, put_else}
 use Rattle.board_rule.proofs.buffers.BlockLemmas.{with_block, with_free, names_put, names_later, reclaims_put, AreNear, buffers_block}

@@ -32,12 +32,12 @@ use Rattle.board_rule.proofs.events.TickLemmas.{ticks_stay, ticks_past, none_loo
 use Rattle.board_rule.proofs.events.DrawLemmas.{Logs, none_in, member}
 use Rattle.board_rule.proofs.buffers.StoreLemmas.{event_stored, late_set, ended}
 use Rattle.board_rule.proofs.events.LateLemmas.{told_late, inside_looks}
-use Rattle.board_rule.proofs.GrowthLemmas.{first_within, first_at_end}
+use Rattle.board_rule.proofs.GrowingListLemmas.{first_within, first_at_end}
 use Rattle.board_rule.proofs.events.MarkLemmas.{words_stored, words_late, node_was, lead_here, lead_else}
 use Rattle.board_rule.proofs.events.TicketLemmas.{logs_of, count_lead}
 use Rattle.board_rule.proofs.activation.FollowerLemmas.{words_run, stage_at}
 use Rattle.board_rule.proofs.activation.CycleLemmas.{all_done}
-use Rattle.board_rule.proofs.FrameLemmas.{after, lead_nodes, lead_holds}
+use Rattle.board_rule.proofs.LeadEventsLemmas.{after, lead_nodes, lead_holds}
 
 -- a node that is not past its work has drawn no Finish
 unfinished : (n c next : ℕ) (f : Phase) → PhaseOk n c next f → (phase_stage (eqb next c) f ≡ 2 → ⊥)

@@ -28,7 +28,7 @@ use Rattle.board_rule.proofs.activation.FollowerLemmas.{rest_at, owing_at, stage
 use Rattle.board_rule.proofs.activation.FollowerLemmas.{not_resetting, active_node, same_node, holds_node_by}
 use Rattle.board_rule.proofs.buffers.SpanLemmas.{node_over, node_begun, wired_in, over_at, begun_at, over_else, over_put, begun_put, early_word}
 use Rattle.board_rule.proofs.buffers.HolderLemmas.{is_ready, holder_follows}
-use Rattle.board_rule.proofs.buffers.PaceLemmas.{paces}
+use Rattle.board_rule.proofs.buffers.PacedLemmas.{paces}
 use Rattle.board_rule.proofs.events.FinishLemmas.{buffers_finish}
 
 -- two phases of a node at its work that mean the same for the activation words

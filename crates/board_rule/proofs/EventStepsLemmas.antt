@@ -34,11 +34,11 @@ use Rattle.board_rule.specs.working.Plays.{Leaves, Learns}
 use Rattle.board_rule.proofs.start.SeatLemmas.{node_step, lead_step, look_step, seated_logs}
 use Rattle.board_rule.proofs.events.TicketLemmas.{count_node, count_lead, few_tickets}
 use Rattle.board_rule.proofs.activation.FollowerLemmas.{stage_at, not_resetting, same_node}
-use Rattle.board_rule.proofs.activation.WorkLemmas.{Alike, draws_start, draws_finish, active_alike, ticket_is_other, later_is_other}
+use Rattle.board_rule.proofs.activation.WorkStepsLemmas.{Alike, draws_start, draws_finish, active_alike, ticket_is_other, later_is_other}
 use Rattle.board_rule.proofs.DriverLemmas.{lead_is}
 use Rattle.board_rule.proofs.buffers.SpanLemmas.{IsLeadPaced, IsLogWord, phase_paced, buffers_node, buffers_lead, wired_in, early_word, log_word}
 use Rattle.board_rule.proofs.events.EventLemmas.{events_start, events_finish, events_stored}
-use Rattle.board_rule.proofs.events.CheckLemmas.{events_looked}
+use Rattle.board_rule.proofs.events.CheckStepsLemmas.{events_looked}
 
 drawn_word : (ws : List ℕ) (k : ℕ) → 0 < length ws → get_or (set ws 0 (suc k)) 0 0 ≡ suc k
 drawn_word [] k h = absurd (omega arith)
