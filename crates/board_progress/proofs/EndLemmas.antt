@@ -13,7 +13,7 @@ use Rattle.board_progress.specs.Progress.{IsStaffed, IsUnfinished, HaveEnded}
 use Rattle.board_progress.specs.Runs.{board_left, Runs}
 use Rattle.board_progress.specs.Ends.{AreWords, ReachesEnd}
 use Rattle.board_progress.proofs.RunLemmas.{bounded}
-use Rattle.board_progress.proofs.GoingLemmas.{goes_on}
+use Rattle.board_progress.proofs.GoesOnLemmas.{goes_on}
 
 module _ (board_shape : BoardShape) where
   abbrev p : BoardLayout

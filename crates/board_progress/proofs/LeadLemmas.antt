@@ -23,8 +23,8 @@ use Rattle.board_progress.specs.working.Order.{IsOrdered}
 use Rattle.board_progress.specs.NodeAdvances.NodeAdvances.{stores_pending, stores_status, lowers, triggers, draws_ticket, stores_event, looks}
 use Rattle.board_progress.specs.NodeAdvances.NodeAdvances.{stores_late}
 use Rattle.board_progress.specs.Progress.{IsStaffed, IsUnfinished, SomeAdvances}
-use Rattle.board_progress.proofs.StaffLemmas.{searched, LeadSeat, lead_seat, cycles_left, lead_start_room, lead_finish_room, lead_ticket_room}
-use Rattle.board_progress.proofs.FollowerLemmas.{node_moves}
+use Rattle.board_progress.proofs.StaffedLemmas.{searched, LeadSeat, lead_seat, cycles_left, lead_start_room, lead_finish_room, lead_ticket_room}
+use Rattle.board_progress.proofs.FollowerAdvancesLemmas.{node_moves}
 use Rattle.board_progress.proofs.WaitingLemmas.{waiting_advances}
 
 contains_or : (x : ℕ) (xs : List ℕ) → Contains xs x ⊎ (Contains xs x → ⊥)

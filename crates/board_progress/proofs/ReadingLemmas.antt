@@ -25,7 +25,7 @@ use Rattle.board_progress.specs.Moves.{Move}
 use Rattle.board_progress.specs.BufferAdvances.{BufferAdvances}
 use Rattle.board_progress.specs.BufferAdvances.BufferAdvances.{loads_as_reader, loads_sample, lowers_readers, stores_need}
 use Rattle.board_progress.specs.Progress.{SomeAdvances}
-use Rattle.board_progress.proofs.StaffLemmas.{within}
+use Rattle.board_progress.proofs.StaffedLemmas.{within}
 
 module _ (p : BoardLayout) (s : State (Option ℕ) View) (h : Holds p s) where
   abbrev g : Whole

@@ -27,10 +27,10 @@ use Rattle.board_progress.specs.BuffersLeft.{block_left, words_at, steps_left}
 use Rattle.board_progress.specs.Progress.{Advances}
 use Rattle.board_progress.specs.VainSteps.{VainSteps}
 use Rattle.board_progress.specs.Runs.{board_left, Runs, IsBounded, StepRuns, HasFewAdvances}
-use Rattle.board_progress.proofs.StaffLemmas.{within}
-use Rattle.board_progress.proofs.LeadFallLemmas.{node_advance_falls}
-use Rattle.board_progress.proofs.BufferFallLemmas.{buffer_advance_falls}
-use Rattle.board_progress.proofs.VainLemmas.{vain_rises}
+use Rattle.board_progress.proofs.StaffedLemmas.{within}
+use Rattle.board_progress.proofs.NodeAdvancesLemmas.{node_advance_falls}
+use Rattle.board_progress.proofs.BufferAdvancesLemmas.{buffer_advance_falls}
+use Rattle.board_progress.proofs.VainStepsLemmas.{vain_rises}
 
 -- one element of a list changes
 sum_set : (f : View → ℕ) (xs : List View) (i : ℕ) (v w : View) → get_elem? xs i ≡ some v → f w < f v → sum_by f (set xs i w) < sum_by f xs

@@ -24,8 +24,8 @@ use Rattle.board_rule.proofs.activation.FollowerLemmas.{rest_at, owing_at, stage
 use Rattle.board_progress.specs.working.Order.{IsOrdered}
 use Rattle.board_progress.specs.NodeAdvances.NodeAdvances.{claims}
 use Rattle.board_progress.specs.Progress.{IsStaffed, IsUnfinished, SomeAdvances}
-use Rattle.board_progress.proofs.StaffLemmas.{searched, seat_of, lead_seat, cycles_left}
-use Rattle.board_progress.proofs.FollowerLemmas.{node_moves, has_node, follower_advances}
+use Rattle.board_progress.proofs.StaffedLemmas.{searched, seat_of, lead_seat, cycles_left}
+use Rattle.board_progress.proofs.FollowerAdvancesLemmas.{node_moves, has_node, follower_advances}
 
 pub idle_or : (f : Phase) → (f ≡ Idle) ⊎ (f ≡ Idle → ⊥)
 idle_or Idle = inl refl

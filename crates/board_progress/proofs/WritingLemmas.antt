@@ -38,7 +38,7 @@ use Rattle.board_rule.proofs.buffers.BlockStepsLemmas.{finds_none}
 use Rattle.board_rule.proofs.buffers.PoolWordLemmas.{pools_have_words}
 use Rattle.board_progress.specs.BufferAdvances.BufferAdvances.{loads_as_writer, loads_readers, stores_sample, stores_readers, stores_have}
 use Rattle.board_progress.specs.Progress.{SomeAdvances}
-use Rattle.board_progress.proofs.StaffLemmas.{within, searched}
+use Rattle.board_progress.proofs.StaffedLemmas.{within, searched}
 use Rattle.board_progress.proofs.ReadingLemmas.{buffer_moves}
 
 -- a pool that is late has two blocks

@@ -1,4 +1,4 @@
-use Rattle.board_progress.proofs.GoingLemmas.{goes_on}
+use Rattle.board_progress.proofs.GoesOnLemmas.{goes_on}
 use Rattle.board_progress.proofs.progress.board_goes_on.Goals as goal
 
 pub returns : goal.returns

@@ -1,4 +1,4 @@
-use Rattle.board_progress.proofs.WorkLemmas.{never_stuck}
+use Rattle.board_progress.proofs.NeverStuckLemmas.{never_stuck}
 use Rattle.board_progress.proofs.progress.board_is_never_stuck.Goals as goal
 
 pub returns : goal.returns

@@ -10,7 +10,7 @@ use Rattle.board_rule.specs.BoardRule.{Holds}
 use Rattle.board_progress.specs.Moves.{Move, moved}
 use Rattle.board_progress.specs.Progress.{Advances, IsStaffed, IsUnfinished}
 use Rattle.board_progress.specs.Ends.{AreWords, IsFurther, GoesOn}
-use Rattle.board_progress.proofs.WorkLemmas.{never_stuck}
+use Rattle.board_progress.proofs.NeverStuckLemmas.{never_stuck}
 use Rattle.board_progress.proofs.RunLemmas.{advance_falls}
 use Rattle.board_progress.proofs.KeepLemmas.{advance_keeps}
 use Rattle.board_progress.proofs.StayLemmas.{advance_stays, staffed}

@@ -29,7 +29,7 @@ use Rattle.board_progress.specs.BufferAdvances.{BufferAdvances}
 use Rattle.board_progress.specs.BufferAdvances.BufferAdvances.{loads_as_writer, loads_readers, stores_sample, stores_readers, stores_have}
 use Rattle.board_progress.specs.BufferAdvances.BufferAdvances.{loads_as_reader, loads_sample, lowers_readers, stores_need}
 use Rattle.board_progress.specs.BuffersLeft.{write_left, read_left, block_left, words_at, blocks_left, reclaims_left, steps_left}
-use Rattle.board_progress.proofs.FallLemmas.{one_cycle}
+use Rattle.board_progress.proofs.StepsLeftLemmas.{one_cycle}
 
 -- some cycles' worth, one at least
 some_cycles : (last r c k : ℕ) → r ≤ c → c < last → (last - (c + 1)) * k + k ≤ (last - r) * k

@@ -24,9 +24,9 @@ use Rattle.board_progress.specs.NodeAdvances.NodeAdvances.{looks, stores_late}
 use Rattle.board_progress.specs.PhasesLeft.{cycles_left, drive_steps}
 use Rattle.board_progress.specs.StepsLeft.{unseen, lead_left}
 use Rattle.board_progress.specs.BuffersLeft.{steps_left}
-use Rattle.board_progress.proofs.FallLemmas.{one_cycle, node_falls, woken_falls}
-use Rattle.board_progress.proofs.NodeFallLemmas.{total_less, times_none, unseen_most, lead_falls, triggered_falls, lowered_falls, drawn_falls, stored_falls}
-use Rattle.board_progress.proofs.NodeFallLemmas.{in_drive, kicked_falls}
+use Rattle.board_progress.proofs.StepsLeftLemmas.{one_cycle, node_falls, woken_falls}
+use Rattle.board_progress.proofs.PhasesLeftLemmas.{total_less, times_none, unseen_most, lead_falls, triggered_falls, lowered_falls, drawn_falls, stored_falls}
+use Rattle.board_progress.proofs.PhasesLeftLemmas.{in_drive, kicked_falls}
 
 checked_most : (n : ℕ) (c : Bool) → (cond c 8 (n + 11) ≤ n + 11) × (7 < cond c 8 (n + 11))
 checked_most n true = (omega arith, omega arith)

@@ -8,7 +8,7 @@ use Rattle.board_progress.specs.Moves.{Move}
 use Rattle.board_progress.specs.VainSteps.{VainSteps}
 use Rattle.board_progress.specs.VainSteps.VainSteps.{claims_early, loads_again}
 use Rattle.board_progress.specs.BuffersLeft.{read_left, words_at, steps_left}
-use Rattle.board_progress.proofs.BufferFallLemmas.{holds_it, read_moves}
+use Rattle.board_progress.proofs.BufferAdvancesLemmas.{holds_it, read_moves}
 
 module _ (p : BoardLayout) (words : List ℕ) (v : View) where
   abbrev Rises : ℕ → Move → Type 0

@@ -24,7 +24,7 @@ use Rattle.board_progress.specs.StepsLeft.{unseen}
 use Rattle.board_progress.specs.StepsLeft.{lead_left, turn_left}
 use Rattle.board_progress.specs.BuffersLeft.{steps_left}
 use Rattle.board_progress.proofs.OrderLemmas.{times_all}
-use Rattle.board_progress.proofs.FallLemmas.{settled_falls}
+use Rattle.board_progress.proofs.StepsLeftLemmas.{settled_falls}
 
 -- a sum of which one term falls and no term rises
 total_most : (f g : ℕ → ℕ) (k : ℕ) → ((i : ℕ) → g i ≤ f i) → total g k ≤ total f k

@@ -19,7 +19,7 @@ use Rattle.board_progress.specs.Moves.{Move}
 use Rattle.board_progress.specs.NodeAdvances.{NodeAdvances}
 use Rattle.board_progress.specs.NodeAdvances.NodeAdvances.{lowers, triggers, draws_ticket, stores_event}
 use Rattle.board_progress.specs.Progress.{IsStaffed, IsUnfinished, SomeAdvances}
-use Rattle.board_progress.proofs.StaffLemmas.{SeatOf, seat_of, cycles_left, start_room, finish_room}
+use Rattle.board_progress.proofs.StaffedLemmas.{SeatOf, seat_of, cycles_left, start_room, finish_room}
 
 module _ (p : BoardLayout) (s : State (Option ℕ) View) (h : Holds p s) (staff : IsStaffed p s.views) (more : IsUnfinished p s.views) where
   abbrev g : Whole

@@ -26,8 +26,8 @@ use Rattle.board_rule.proofs.buffers.HolderLemmas.{link_is, link_there, pool_her
 use Rattle.board_progress.specs.NodeAdvances.NodeAdvances.{finishes}
 use Rattle.board_progress.specs.Progress.{IsStaffed, IsUnfinished, SomeAdvances}
 use Rattle.board_progress.proofs.OrderLemmas.{ordered}
-use Rattle.board_progress.proofs.StaffLemmas.{searched, seat_of, lead_seat}
-use Rattle.board_progress.proofs.FollowerLemmas.{node_moves, has_node}
+use Rattle.board_progress.proofs.StaffedLemmas.{searched, seat_of, lead_seat}
+use Rattle.board_progress.proofs.FollowerAdvancesLemmas.{node_moves, has_node}
 use Rattle.board_progress.proofs.LeadLemmas.{lead_node, lead_advances}
 use Rattle.board_progress.proofs.ReadingLemmas.{read_advances}
 use Rattle.board_progress.proofs.WritingLemmas.{load_advances, pool_advances}
