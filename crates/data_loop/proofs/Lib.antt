@@ -1,7 +1,7 @@
 pub mod OwnPoolsLemmas
 pub mod turns
 pub mod SumLemmas
-pub mod OnlyLemmas
+pub mod OnlyLinkLemmas
 pub mod InputLemmas
 pub mod Playable
 pub mod TurnLemmas
@@ -9,8 +9,8 @@ pub mod PlayLemmas
 pub mod PlayerLemmas
 pub mod FrontLemmas
 pub mod StageLemmas
-pub mod TryLemmas
-pub mod TryAtLemmas
+pub mod HaveTriedLemmas
+pub mod LoopTriesLemmas
 pub mod PassLemmas
 pub mod PairLemmas
 pub mod SameLemmas

@@ -15,7 +15,7 @@ use Rattle.data_loop.specs.declared.stage.Stage.{Stage}
 use Rattle.data_loop.specs.Fronts.{is_chosen, chosen_in, HasPassed}
 use Rattle.data_loop.specs.Tries.{no_member}
 use Rattle.data_loop.specs.LoopTurn.{next_in, has_left, least_next, is_behind, turn_order, HaveTried, HasRun, IsDid}
-use Rattle.data_loop.proofs.TryLemmas.{tried_on}
+use Rattle.data_loop.proofs.HaveTriedLemmas.{tried_on}
 
 -- no more tries than members
 pub few_pass : (q : Member → Bool) (l : List Member) → length (filter q l) ≤ length l

@@ -15,7 +15,7 @@ use Rattle.data_loop.specs.working.ReadingInputs.{MayReadAll, AreRead}
 use Rattle.data_loop.specs.working.Inputs.{IsZero, IsWide, AreLong, only_link, links_of, first_rows, second_rows}
 use Rattle.data_loop.proofs.turns.ReadingInputsLemmas.{none_read, one_more}
 use Rattle.data_loop.proofs.InputLemmas.{first_comes, second_comes}
-use Rattle.data_loop.proofs.OnlyLemmas.{links_only, all_only, first_only, second_only, zeros_summed, silence_clamped}
+use Rattle.data_loop.proofs.OnlyLinkLemmas.{links_only, all_only, first_only, second_only, zeros_summed, silence_clamped}
 use Rattle.data_loop.proofs.PlayerLemmas.{front_is}
 use Rattle.data_loop.proofs.SumLemmas.{all_zeros}
 use Rattle.data_loop.proofs.gathering.gather_in.Goals as goal

@@ -15,7 +15,7 @@ use Rattle.data_loop.specs.Tries.{no_member, member_at}
 use Rattle.data_loop.specs.LoopTurn.{next_in, HaveTried, HasRun}
 use Rattle.data_loop.proofs.PassLemmas.{few_tried, split_at, chosen_is}
 use Rattle.data_loop.proofs.SameLemmas.{same_on, room_on, left_on}
-use Rattle.data_loop.proofs.TryLemmas.{none_tried, still_next, one_ended, one_tried, one_ran}
+use Rattle.data_loop.proofs.HaveTriedLemmas.{none_tried, still_next, one_ended, one_tried, one_ran}
 use Rattle.data_loop.proofs.stage.Stage.pass.Goals as goal
 use Rattle.data_loop.proofs.stage.Stage.pass.Goals.{in-Ended, in-NotYet}
 

@@ -6,7 +6,7 @@ use Rattle.data_loop.specs.declared.stage.Stage.{Stage}
 use Rattle.data_loop.specs.Tries.{no_member}
 use Rattle.data_loop.specs.LoopTurn.{HaveTried}
 use Rattle.data_loop.specs.LoopTries.{members_at}
-use Rattle.data_loop.proofs.TryAtLemmas.{none_at, ended_at, tried_at, ran_at}
+use Rattle.data_loop.proofs.LoopTriesLemmas.{none_at, ended_at, tried_at, ran_at}
 use Rattle.data_loop.proofs.stage.Stage.turn_at.Goals as goal
 
 pub returns-in-None-clause-did : goal.returns-in-None-clause-did

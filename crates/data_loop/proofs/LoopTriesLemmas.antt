@@ -20,7 +20,7 @@ use Rattle.data_loop.specs.Tries.{no_member, member_at}
 use Rattle.data_loop.specs.LoopTurn.{next_in, HaveTried}
 use Rattle.data_loop.specs.LoopTries.{members_at, HasRunAt}
 use Rattle.data_loop.proofs.turns.EndsLemmas.{same_node}
-use Rattle.data_loop.proofs.TryLemmas.{none_tried, one_ended, one_tried}
+use Rattle.data_loop.proofs.HaveTriedLemmas.{none_tried, one_ended, one_tried}
 
 members_none : (n : ℕ) (ms : List Member) → All (λ m. m.node ≢ n) ms → members_at n ms ≡ []
 members_none n [] h = refl
