@@ -26,8 +26,8 @@ use Rattle.graph_script.specs.Kinds.{HasKinds, HasPorts}
 use Rattle.graph_script.specs.working.Sound.{IsSound}
 use Rattle.graph_script.proofs.NodeLemmas.{IsNew}
 use Rattle.graph_script.proofs.FitLemmas.{added, IsFit, meaning_of_words-fits}
-use Rattle.graph_script.proofs.MoreLemmas.{HasNodes-more, HasPorts-more, made-after}
-use Rattle.graph_script.proofs.CountLemmas.{epochs-push}
+use Rattle.graph_script.proofs.HasNodesLemmas.{HasNodes-more, HasPorts-more, made-after}
+use Rattle.graph_script.proofs.EarlierLemmas.{epochs-push}
 use Rattle.graph_script.proofs.MakingLemmas.{names-push, all_grown-push, grown-added, fit-makes}
 
 -- the names and the kinds after a line: as many more as it adds

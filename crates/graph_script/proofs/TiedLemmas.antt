@@ -13,9 +13,9 @@ use Rattle.graph_script.specs.working.Progress.{marked, counted, AreBefore}
 use Rattle.graph_script.specs.Ranges.{HasNodes}
 use Rattle.graph_script.specs.working.Sound.{IsSound, IsTied}
 use Rattle.graph_script.proofs.FitLemmas.{added, IsFit}
-use Rattle.graph_script.proofs.MoreLemmas.{HasNodes-more}
+use Rattle.graph_script.proofs.HasNodesLemmas.{HasNodes-more}
 use Rattle.graph_script.proofs.SoundLemmas.{reading_after-sound, start-sound}
-use Rattle.graph_script.proofs.CountLemmas.{epochs-after, linked-after, length-marked}
+use Rattle.graph_script.proofs.EarlierLemmas.{epochs-after, linked-after, length-marked}
 
 added-one : (made : Option Made) → added made ≤ 1
 added-one None = omega arith

@@ -19,7 +19,7 @@ use Rattle.graph_script.specs.Nodes.{node_called, kind_at, node_arg, port_called
 use Rattle.graph_script.specs.Kinds.{kind_in}
 use Rattle.graph_script.specs.Printing.{node_word, port_word, endpoint_word}
 use Rattle.graph_script.proofs.CheckedLemmas.{from_bind, from_some, from_refusal, from_map}
-use Rattle.graph_script.proofs.MoreLemmas.{kind_in-more}
+use Rattle.graph_script.proofs.HasNodesLemmas.{kind_in-more}
 
 -- the words of arguments that were counted
 from_checked_map : {A B : Type 0} (f : A → B) (r : Result A ScriptWhy) (y : B) → checked_map f r ≡ Ok y → (x : A) × (r ≡ Ok x) × (f x ≡ y)

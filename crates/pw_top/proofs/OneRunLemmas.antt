@@ -16,7 +16,7 @@ use Rattle.graph_script.specs.Kinds.{HasKinds}
 use Rattle.graph_script.specs.Making.{NamesMade}
 use Rattle.graph_script.specs.Order.{HasOrder}
 use Rattle.graph_script.specs.Ranges.{HasRanges}
-use Rattle.graph_script.proofs.AgainLemmas.{has_run, good_final}
+use Rattle.graph_script.proofs.ItsTextLemmas.{has_run, good_final}
 use Rattle.graph_script.proofs.SoundLemmas.{start-sound, sound-kinds}
 use Rattle.port_model.specs.declared.port_state.Node.{Node}
 use Rattle.graph_lines.specs.Start.{kinds_of}

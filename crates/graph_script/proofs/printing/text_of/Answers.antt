@@ -2,7 +2,7 @@ use Rattle.std.proofs.Common.{◌≡◌, ◌≤◌, ◌++◌, length, sym, ap, �
 use Rattle.graph_script.specs.Grammar.{script_of}
 use Rattle.graph_script.specs.Printing.{text_from, text_of_script, kinds_of}
 use Rattle.graph_script.specs.Printable.{AreFrom, AreWritable}
-use Rattle.graph_script.proofs.AgainLemmas.{its_text}
+use Rattle.graph_script.proofs.ItsTextLemmas.{its_text}
 use Rattle.graph_script.proofs.printing.text_of.Goals as goal
 
 pub put_lines-requires-clause-same : goal.put_lines-requires-clause-same

@@ -26,7 +26,7 @@ use Rattle.graph_script.specs.working.Sound.{IsSound}
 use Rattle.graph_script.proofs.GrammarLemmas.{goes_on, ends}
 use Rattle.graph_script.proofs.SoundLemmas.{reading_after-sound, before-more, before-after, from_words, start-sound}
 use Rattle.graph_script.proofs.WordLemmas.{IsFront}
-use Rattle.graph_script.proofs.SpellingLemmas.{IsFrontAfter, words_spelled}
+use Rattle.graph_script.proofs.SpelledLemmas.{IsFrontAfter, words_spelled}
 use Rattle.graph_script.proofs.TextLemmas.{IsLineByte, IsWord, IsPieceByte, pieces_all, words-are, line_bytes, allowed_all, joined_bytes}
 use Rattle.graph_script.proofs.TextLemmas.{words_joined, length_split, joined_shorter}
 
