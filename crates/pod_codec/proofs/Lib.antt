@@ -5,7 +5,7 @@ pub mod DecoderLemmas
 pub mod LeafLemmas
 pub mod BodyLemmas
 pub mod SpellingLemmas
-pub mod ChoiceLemmas
+pub mod SoundChoicesLemmas
 pub mod FormLemmas
 pub mod PlaceLemmas
 pub mod ScalarSpelledLemmas
@@ -13,8 +13,8 @@ pub mod ElementLemmas
 pub mod HeldSpelledLemmas
 pub mod CanonicalLemmas
 pub mod AnswerLemmas
-pub mod LeafAnswerLemmas
+pub mod ChildrenChecksLemmas
 pub mod TypeCases
-pub mod BodyAnswerLemmas
-pub mod WholeAnswerLemmas
+pub mod BodyChecksLemmas
+pub mod HasAnswerLemmas
 pub mod PodReadings

@@ -7,7 +7,7 @@ use Rattle.pod_codec.specs.working.PodReading.{IsReading}
 use Rattle.pod_codec.proofs.Decoder.{decoded_front}
 use Rattle.pod_codec.proofs.SpellingLemmas.{front_decoded, first_decoded}
 use Rattle.pod_codec.specs.ReadAnswer.{HasAnswer}
-use Rattle.pod_codec.proofs.WholeAnswerLemmas.{has_answer}
+use Rattle.pod_codec.proofs.HasAnswerLemmas.{has_answer}
 
 of_both : (bytes : List ℕ) → HasAnswer bytes → (reading : Result (Pod × ℕ) PodFault) × IsReading bytes reading
 of_both bytes (inl x) = (Ok (x.0, x.1), x.2)

@@ -19,7 +19,7 @@ use Rattle.pod_codec.proofs.DecoderLemmas.{run_fault}
 use Rattle.pod_codec.proofs.BodyLemmas.{IsFixed, pod_fixed, prop_made, control_made, keyed_fixed, body_found, checks_found}
 use Rattle.pod_codec.proofs.ReadingLemmas.{outer_good}
 use Rattle.pod_codec.specs.SoundChoices.{HasSoundChoices}
-use Rattle.pod_codec.proofs.ChoiceLemmas.{sound_front}
+use Rattle.pod_codec.proofs.SoundChoicesLemmas.{sound_front}
 
 -- a header that is there, and whose body is
 header_good : (bytes : List ℕ) (p e : ℕ) → p + 8 + pad8 (u32_at bytes p) ≤ e → first_failed (header_checks bytes p e) ≡ None

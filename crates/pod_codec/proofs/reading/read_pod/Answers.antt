@@ -3,7 +3,7 @@ use Rattle.std.proofs.Common.{length}
 use Rattle.pod_codec.specs.PodValue.{canonical}
 use Rattle.pod_codec.proofs.SpellingLemmas.{only_read, only_refused, only_sound}
 use Rattle.pod_codec.proofs.CanonicalLemmas.{canonical_front}
-use Rattle.pod_codec.proofs.WholeAnswerLemmas.{has_answer}
+use Rattle.pod_codec.proofs.HasAnswerLemmas.{has_answer}
 use Rattle.pod_codec.proofs.reading.read_pod.Goals as goal
 
 pub returns-clause-one : goal.returns-clause-one

@@ -19,7 +19,7 @@ use Rattle.pod_codec.specs.FirstFault.{IsKeyedFault, IsHeldFault}
 use Rattle.pod_codec.proofs.Decoder.{mapped, run, child_of, values_of, kind_of, prop_of, control_of, keyed_step, body_of}
 use Rattle.pod_codec.proofs.Decoder.{leaf_of}
 use Rattle.pod_codec.proofs.AnswerLemmas.{StepRight, RunRight, run_right}
-use Rattle.pod_codec.proofs.LeafAnswerLemmas.{passed, same_number, children_right}
+use Rattle.pod_codec.proofs.ChildrenChecksLemmas.{passed, same_number, children_right}
 use Rattle.pod_codec.proofs.TypeCases.{by_type}
 
 -- a body's answer is right

@@ -16,10 +16,10 @@ use Rattle.pod_codec.specs.Checks.{first_failed, header_checks, body_checks, out
 use Rattle.pod_codec.specs.FirstFault.{FaultsAt}
 use Rattle.pod_codec.proofs.Decoder.{guarded, mapped, body_of, decoded}
 use Rattle.pod_codec.proofs.AnswerLemmas.{StepRight}
-use Rattle.pod_codec.proofs.LeafAnswerLemmas.{passed}
+use Rattle.pod_codec.proofs.ChildrenChecksLemmas.{passed}
 use Rattle.pod_codec.proofs.SpellingLemmas.{spelled_decoded}
 use Rattle.pod_codec.specs.ReadAnswer.{HasAnswer}
-use Rattle.pod_codec.proofs.BodyAnswerLemmas.{BodyRight, body_right}
+use Rattle.pod_codec.proofs.BodyChecksLemmas.{BodyRight, body_right}
 
 -- the decoder's answer is right
 abbrev pub PodRight : ℕ → List ℕ → ℕ → ℕ → Result (Pod × ℕ) PodFault → Type 0
