@@ -22,8 +22,8 @@ use Rattle.format_filter.specs.FormatReading.{key_of, ReadsChoice, FaultsProp, F
 use Rattle.format_filter.specs.FormatAnswer.{IsGiven, IsRefusedAs}
 use Rattle.format_filter.specs.Intersection.{Meets}
 use Rattle.format_filter.specs.CommonFormat.{Filters}
-use Rattle.format_filter.proofs.IntersectionOneLemmas.{meets_one}
-use Rattle.format_filter.proofs.UniqueLemmas.{reads_faultless, formats_one, object_faultless, filters_one}
+use Rattle.format_filter.proofs.OneIntersectionLemmas.{meets_one}
+use Rattle.format_filter.proofs.OneFormatLemmas.{reads_faultless, formats_one, object_faultless, filters_one}
 
 -- values have one fault
 values_fault : (kind : ChoiceKind) (values : List Pod) (key : ℕ) (a b : FormatFault) → FaultsValues kind values key a

@@ -1,7 +1,7 @@
-pub mod CongruenceLemmas
+pub mod SolutionsLemmas
 pub mod NumberLemmas
 pub mod ProgressionLemmas
-pub mod CommonRowLemmas
+pub mod InBothLemmas
 pub mod ValueLemmas
 pub mod TypeLemmas
 pub mod NumberChoiceLemmas
@@ -12,7 +12,7 @@ pub mod MergeLemmas
 pub mod FixationLemmas
 pub mod ReadingLemmas
 pub mod PropLemmas
-pub mod LawLemmas
-pub mod IntersectionOneLemmas
-pub mod UniqueLemmas
+pub mod FormatWritingLemmas
+pub mod OneIntersectionLemmas
+pub mod OneFormatLemmas
 pub mod AnswerLemmas

@@ -6,7 +6,7 @@ use Rattle.std.specs.Int.{cast_unsigned}
 use Rattle.std.proofs.lemmas.Int.{ints, to_z-of_z}
 use Rattle.std.proofs.Math.Nat.{mul-mod_left}
 use Rattle.format_filter.specs.Members.{IsReached}
-use Rattle.format_filter.proofs.CongruenceLemmas.{whole_is}
+use Rattle.format_filter.proofs.SolutionsLemmas.{whole_is}
 
 -- a number above 0
 pub positive : (z : ℤ) → pos 0 <ℤ z → (s : ℕ) × (z ≡ pos s) × (0 < s)

@@ -139,7 +139,7 @@ fn common_after(late: Row, early: Row) -> Numbers
 }
 
 /// What two rows have in common. Takes no memory, and time logarithmic in the steps.
-#[tactic(auto, using(crate::proofs::CommonRowLemmas::turned))]
+#[tactic(auto, using(crate::proofs::InBothLemmas::turned))]
 pub fn common_numbers(a: Row, b: Row) -> Numbers
     requires a { pos 0 <ℤ a.step }
     requires b { pos 0 <ℤ b.step }

@@ -11,8 +11,8 @@ use Rattle.format_filter.specs.declared.choice.Choice.{Choice}
 use Rattle.format_filter.specs.declared.format.Format.{Format}
 use Rattle.format_filter.specs.declared.common.Filtered.TheVariants.{Common, Clash}
 use Rattle.format_filter.specs.Fixation.{fixated}
-use Rattle.format_filter.proofs.IntersectionOneLemmas.{meets_one}
-use Rattle.format_filter.proofs.UniqueLemmas.{filters_one}
+use Rattle.format_filter.proofs.OneIntersectionLemmas.{meets_one}
+use Rattle.format_filter.proofs.OneFormatLemmas.{filters_one}
 use Rattle.port_model.specs.declared.port_state.PortState.{PortState}
 use Rattle.port_model.specs.declared.port_state.Node.{Node}
 use Rattle.port_model.specs.declared.sharing.Offered.{Offered}

@@ -8,7 +8,7 @@ use Rattle.std.proofs.lemmas.Bool.Decides.{eqb_tells}
 use Rattle.std.proofs.lemmas.Bool.{cases_order}
 use Rattle.std.proofs.lemmas.Option.{same_Some, none-some}
 use Rattle.std.proofs.lemmas.List.{get_or-map, length-map, take_more, map-append, get_or-take, length-take}
-use Rattle.format_filter.proofs.LawLemmas.{first_found}
+use Rattle.format_filter.proofs.FormatWritingLemmas.{first_found}
 use Rattle.std.proofs.lemmas.List.Elements.{All-more, All-map, All-weaker}
 use Rattle.pod_codec.specs.declared.pod.Pod.{Pod}
 use Rattle.pod_codec.specs.SoundChoices.{IsOfType}

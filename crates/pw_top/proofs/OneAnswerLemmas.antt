@@ -6,7 +6,7 @@ use Rattle.pod_codec.specs.declared.pod.Pod.{Pod}
 use Rattle.format_filter.specs.declared.format.Format.{Format}
 use Rattle.format_filter.specs.declared.common.Filtered.{Filtered}
 use Rattle.format_filter.specs.declared.common.Filtered.TheVariants.{Common, Clash, Types}
-use Rattle.format_filter.proofs.UniqueLemmas.{filters_one, written_one}
+use Rattle.format_filter.proofs.OneFormatLemmas.{filters_one, written_one}
 use Rattle.wav_files.specs.declared.wav.Wav.{Wav}
 use Rattle.pw_top.specs.declared.status.Status.{Status}
 use Rattle.pw_top.specs.declared.usage.CommandLine.{CommandLine}

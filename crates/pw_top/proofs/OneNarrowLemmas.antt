@@ -7,7 +7,7 @@ use Rattle.pw_graph.specs.declared.kind.Kind.TheVariants as K
 use Rattle.format_filter.specs.declared.format.Format.{Format}
 use Rattle.format_filter.specs.declared.common.Filtered.TheVariants as filtered
 use Rattle.format_filter.specs.CommonFormat.{Filters}
-use Rattle.format_filter.proofs.UniqueLemmas.{filters_one}
+use Rattle.format_filter.proofs.OneFormatLemmas.{filters_one}
 use Rattle.port_model.specs.declared.narrowing.Narrowed.{Narrowed}
 use Rattle.port_model.specs.declared.narrowing.Narrowed.TheVariants as N
 use Rattle.port_model.specs.declared.port_state.Node.{Node}

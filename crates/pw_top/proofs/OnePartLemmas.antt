@@ -9,7 +9,7 @@ use Rattle.pod_codec.specs.declared.pod.Pod.TheViews.{out-Pod}
 use Rattle.pod_codec.specs.Spelling.{FrontSpells}
 use Rattle.pod_codec.proofs.PodReadings.{reading_of, only_reading}
 use Rattle.format_filter.proofs.AnswerLemmas.{object_fault}
-use Rattle.format_filter.proofs.UniqueLemmas.{formats_one, object_faultless}
+use Rattle.format_filter.proofs.OneFormatLemmas.{formats_one, object_faultless}
 use Rattle.pw_top.specs.declared.status.Status.{Status}
 use Rattle.pw_top.specs.declared.status.Status.TheVariants as S
 use Rattle.pw_top.specs.declared.status.PodWhy.TheVariants as P

@@ -1,7 +1,7 @@
 -- The solutions of a congruence are those of the lesser one, turned back.
 use Rattle.std.proofs.Common.{ℕ, ◌*◌, ◌/◌, ◌%◌, refl, sym, ap, ◌∙◌, subst, zero-add, arith}
 use Rattle.format_filter.specs.working.Progression.{AreSolutions}
-use Rattle.format_filter.proofs.CongruenceLemmas.{turned_back, none_turned, all_solve, none_solves, period_room}
+use Rattle.format_filter.proofs.SolutionsLemmas.{turned_back, none_turned, all_solve, none_solves, period_room}
 use Rattle.format_filter.proofs.progression.+solve.Goals as goal
 
 pub returns-then-rest-eq0-clause-some : goal.returns-then-rest-eq0-clause-some

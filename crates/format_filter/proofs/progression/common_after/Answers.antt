@@ -3,7 +3,7 @@ use Rattle.std.proofs.Common.{◌≡◌, ◌≤◌, ℤ, ◌≤ℤ◌, ◌<ℤ�
 use Rattle.std.proofs.lemmas.Int.{ints, clamps, to_z-of_z}
 use Rattle.std.proofs.Math.Nat.{mul-le-mul_right}
 use Rattle.format_filter.proofs.NumberLemmas.{positive, step_is, span_is, way, kept_distance, kept_number}
-use Rattle.format_filter.proofs.CommonRowLemmas.{in_both_from, none_in_both, apart}
+use Rattle.format_filter.proofs.InBothLemmas.{in_both_from, none_in_both, apart}
 use Rattle.format_filter.proofs.progression.common_after.Goals as goal
 
 pub returns-then-high-late : goal.returns-then-high-late

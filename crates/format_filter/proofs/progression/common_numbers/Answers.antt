@@ -1,5 +1,5 @@
 -- The row that begins later comes first.
-use Rattle.format_filter.proofs.CommonRowLemmas.{turned}
+use Rattle.format_filter.proofs.InBothLemmas.{turned}
 use Rattle.format_filter.proofs.progression.common_numbers.Goals as goal
 
 pub returns-then-a-b : goal.returns-then-a-b

@@ -1,7 +1,7 @@
 -- A number and its complement make a multiple.
 use Rattle.std.proofs.Common.{arith, inl, inr}
 use Rattle.std.proofs.lemmas.Nat.{mod_below}
-use Rattle.format_filter.proofs.CongruenceLemmas.{complement_whole, complement_rest, complement_only}
+use Rattle.format_filter.proofs.SolutionsLemmas.{complement_whole, complement_rest, complement_only}
 use Rattle.format_filter.proofs.progression.complement.Goals as goal
 
 pub returns-then-rest-eq0-clause-whole : goal.returns-then-rest-eq0-clause-whole

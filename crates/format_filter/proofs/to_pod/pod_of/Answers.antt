@@ -1,6 +1,6 @@
 -- The object is read only as the format, and is the only one that spells it.
-use Rattle.format_filter.proofs.LawLemmas.{format_sound}
-use Rattle.format_filter.proofs.UniqueLemmas.{written_law, written_one}
+use Rattle.format_filter.proofs.FormatWritingLemmas.{format_sound}
+use Rattle.format_filter.proofs.OneFormatLemmas.{written_law, written_one}
 use Rattle.format_filter.proofs.to_pod.pod_of.Goals as goal
 
 pub returns-clause-law : goal.returns-clause-law

@@ -4,7 +4,7 @@ use Rattle.std.specs.List.{AllZip}
 use Rattle.std.proofs.lemmas.List.{take_more}
 use Rattle.format_filter.specs.declared.format.Field.{Field}
 use Rattle.format_filter.specs.FormatWriting.{WritesField}
-use Rattle.format_filter.proofs.LawLemmas.{zip_push}
+use Rattle.format_filter.proofs.FormatWritingLemmas.{zip_push}
 use Rattle.format_filter.proofs.to_pod.props_of.Goals as goal
 
 pub loop-field-preserved : goal.loop-field-preserved

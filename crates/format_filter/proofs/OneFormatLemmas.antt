@@ -27,11 +27,11 @@ use Rattle.format_filter.specs.CommonFormat.{IsSoundFormat, field_of, IsCommonFi
 use Rattle.format_filter.specs.ChoiceReading.{Prefers, ReadsRange, ReadsStep, ReadsEnum, ReadsValues, FaultsValues, Reads, Faults}
 use Rattle.format_filter.specs.FormatReading.{key_of, ReadsField, AreFieldsOf, FaultsProps, ReadsObject, FaultsObject, IsReadAs}
 use Rattle.format_filter.specs.FormatWriting.{IsChoice, Writes, WritesField, WritesObject, IsWritten}
-use Rattle.format_filter.proofs.IntersectionOneLemmas.{intersection_one}
+use Rattle.format_filter.proofs.OneIntersectionLemmas.{intersection_one}
 use Rattle.format_filter.proofs.OverlapLemmas.{number_injective}
 use Rattle.format_filter.proofs.ReadingLemmas.{same_number, wide_same}
 use Rattle.format_filter.proofs.FieldLemmas.{field_none}
-use Rattle.format_filter.proofs.LawLemmas.{first_found, written_format}
+use Rattle.format_filter.proofs.FormatWritingLemmas.{first_found, written_format}
 
 -- two wishes for one default
 enum_picks : (wish p q x : Pod) (xs : List Pod) → Prefers wish (Enum p (x ∷ xs)) → Prefers wish (Enum q (x ∷ xs)) → p ≡ q

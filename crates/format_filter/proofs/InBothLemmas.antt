@@ -8,7 +8,7 @@ use Rattle.format_filter.specs.declared.progression.Numbers.{Numbers}
 use Rattle.format_filter.specs.declared.progression.Numbers.TheVariants.{Nothing}
 use Rattle.format_filter.specs.declared.progression.Solutions.{Solutions}
 use Rattle.format_filter.specs.working.Progression.{AreSolutions, IsIn, AreInBoth, AreFrom}
-use Rattle.format_filter.proofs.CongruenceLemmas.{whole_is}
+use Rattle.format_filter.proofs.SolutionsLemmas.{whole_is}
 
 -- the numbers of a row are its beginning and a multiple of its step
 times : (step : ℤ) (s k : ℕ) → step ≡ pos s → pos k *ℤ step ≡ pos (k * s)
