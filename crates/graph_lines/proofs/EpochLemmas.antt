@@ -24,7 +24,7 @@ use Rattle.pw_graph.specs.LinkOrder.{IsWithinNodes}
 use Rattle.pw_graph.specs.SoundShape.{IsCounted}
 use Rattle.port_model.specs.declared.port_state.Node.{Node}
 use Rattle.port_model.specs.SoundPorts.{AreSoundNodes}
-use Rattle.link_negotiation.proofs.GivingLemmas.{below}
+use Rattle.link_negotiation.proofs.MayBeGivenLemmas.{below}
 use Rattle.graph_lines.specs.declared.epochs.ActiveNodes.{ActiveNodes}
 use Rattle.graph_lines.specs.declared.graph.Graph.{Graph}
 use Rattle.graph_lines.specs.declared.standing.Standing.{Standing}

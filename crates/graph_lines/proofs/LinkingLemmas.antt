@@ -10,7 +10,7 @@ use Rattle.port_model.specs.PortState.{IsPort, AtPort, with_port, changed}
 use Rattle.port_model.specs.SoundPorts.{AreSoundNodes}
 use Rattle.port_model.proofs.NodeLemmas.{at_port, port_at, count_kept}
 use Rattle.port_model.proofs.ChangedLemmas.{changed_here}
-use Rattle.link_negotiation.proofs.GivingLemmas.{there, elsewhere}
+use Rattle.link_negotiation.proofs.MayBeGivenLemmas.{there, elsewhere}
 use Rattle.link_negotiation.specs.LinkOutcome.{given, formatted}
 
 -- a port that has a format is not marked as without a form

@@ -14,7 +14,7 @@ use Rattle.port_model.specs.Forms.{HasForm}
 use Rattle.port_model.specs.PortState.{IsPort, IsInput, AtPort, input_count_of, port_count_of}
 use Rattle.port_model.specs.SoundPorts.{AreSoundNodes}
 use Rattle.port_model.proofs.NodeLemmas.{at_port, has_place}
-use Rattle.link_negotiation.proofs.GivingLemmas.{there}
+use Rattle.link_negotiation.proofs.MayBeGivenLemmas.{there}
 use Rattle.graph_lines.specs.declared.standing.Standing.{Standing}
 use Rattle.graph_lines.specs.Forms.{HasKinds, IsFormOfPort, FormIn}
 use Rattle.graph_lines.specs.Ready.{HasFormat, HasReadyNodes}

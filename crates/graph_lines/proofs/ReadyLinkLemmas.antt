@@ -27,7 +27,7 @@ use Rattle.link_negotiation.specs.declared.common_formats.Negotiated.TheVariants
 use Rattle.link_negotiation.specs.Links.{LinkState}
 use Rattle.link_negotiation.specs.Negotiation.{Negotiates, IsCount, MeetsIn, SharesBuffers}
 use Rattle.link_negotiation.specs.LinkOutcome.{given, formatted, MayBeGiven, IsLinkOutcome, LeavesLink}
-use Rattle.link_negotiation.proofs.GivingLemmas.{IsThere, there, gives_own, gives_other, elsewhere, taken_given, kept_given}
+use Rattle.link_negotiation.proofs.MayBeGivenLemmas.{IsThere, there, gives_own, gives_other, elsewhere, taken_given, kept_given}
 use Rattle.graph_lines.specs.declared.graph.Graph.{Graph}
 use Rattle.graph_lines.specs.declared.graph.Stepped.{Stepped}
 use Rattle.graph_lines.specs.declared.wire.Wire.{Wire}

@@ -24,7 +24,7 @@ use Rattle.port_model.proofs.TakingLemmas.{first_stands}
 use Rattle.port_model.proofs.ValueLemmas.{own_value, free_value}
 use Rattle.link_negotiation.specs.declared.link.Link.{Link}
 use Rattle.link_negotiation.specs.Unlinking.{is_released, releasing}
-use Rattle.link_negotiation.proofs.GivingLemmas.{IsThere, there}
+use Rattle.link_negotiation.proofs.MayBeGivenLemmas.{IsThere, there}
 use Rattle.graph_lines.specs.Forms.{HasKinds, IsFormOfPort, FormIn}
 use Rattle.graph_plan.specs.Conditions.{IsWaveFor}
 use Rattle.graph_plan.proofs.sound.FormLemmas.{one_number, port_count_is, kind_at_is}

@@ -1,7 +1,7 @@
 pub mod WalkLemmas
 pub mod ReachedLemmas
-pub mod SearchLemmas
+pub mod SearchingLemmas
 pub mod OutgoingLemmas
-pub mod GivingLemmas
-pub mod OnceLemmas
+pub mod MayBeGivenLemmas
+pub mod OneLinkOutcomeLemmas
 pub mod UnlinkLemmas

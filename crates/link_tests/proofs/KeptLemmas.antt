@@ -16,7 +16,7 @@ use Rattle.port_model.specs.declared.port_state.PortState.{PortState}
 use Rattle.port_model.specs.declared.port_state.Node.{Node}
 use Rattle.port_model.proofs.ChangedLemmas.{length-changed}
 use Rattle.port_model.proofs.NodeLemmas.{at_port}
-use Rattle.link_negotiation.proofs.GivingLemmas.{IsThere}
+use Rattle.link_negotiation.proofs.MayBeGivenLemmas.{IsThere}
 use Rattle.std.proofs.lemmas.List.{length-append}
 use Rattle.port_model.specs.PortState.{changed, offering, with_port, with_released, released, port_count_of, input_count_of}
 use Rattle.link_negotiation.specs.declared.negotiation.Linked.{Linked}

@@ -32,8 +32,8 @@ use Rattle.link_negotiation.specs.declared.unlinking.Unlinked.TheVariants as U
 use Rattle.link_negotiation.specs.Links.{LinkState, has_link}
 use Rattle.link_negotiation.specs.LinkOutcome.{IsLinkOutcome, LeavesLink, formatted, given}
 use Rattle.link_negotiation.specs.Unlinking.{without, is_released, releasing, giving_up, HasUnlinked}
-use Rattle.link_negotiation.proofs.GivingLemmas.{there}
-use Rattle.link_negotiation.proofs.OnceLemmas.{only_outcome}
+use Rattle.link_negotiation.proofs.MayBeGivenLemmas.{there}
+use Rattle.link_negotiation.proofs.OneLinkOutcomeLemmas.{only_outcome}
 use Rattle.graph_lines.specs.declared.graph.Graph.{Graph}
 use Rattle.graph_lines.specs.declared.graph.Stepped.{Stepped}
 use Rattle.graph_lines.specs.declared.graph.Stepped.TheVariants as T

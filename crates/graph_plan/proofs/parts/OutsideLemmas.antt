@@ -31,7 +31,7 @@ use Rattle.link_negotiation.specs.declared.unlinking.Unlinked.{Unlinked}
 use Rattle.link_negotiation.specs.declared.unlinking.Unlinked.TheVariants as U
 use Rattle.link_negotiation.specs.LinkOutcome.{given, LeavesLink}
 use Rattle.link_negotiation.specs.Unlinking.{without, releasing, HasUnlinked}
-use Rattle.link_negotiation.proofs.GivingLemmas.{IsThere, there}
+use Rattle.link_negotiation.proofs.MayBeGivenLemmas.{IsThere, there}
 use Rattle.graph_lines.specs.declared.graph.Graph.{Graph}
 use Rattle.graph_lines.specs.declared.graph.Stepped.TheVariants as T
 use Rattle.graph_lines.specs.EpochLines.{RunsFor, Steps}

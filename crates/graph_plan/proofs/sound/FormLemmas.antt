@@ -20,7 +20,7 @@ use Rattle.port_model.specs.SoundPorts.{IsSoundNode, AreSoundNodes}
 use Rattle.port_model.proofs.NodeLemmas.{at_port, port_at}
 use Rattle.port_model.proofs.ValueLemmas.{own_value, free_value, some_is}
 use Rattle.port_model.proofs.TakingLemmas.{shared_at}
-use Rattle.link_negotiation.proofs.GivingLemmas.{there}
+use Rattle.link_negotiation.proofs.MayBeGivenLemmas.{there}
 use Rattle.graph_lines.specs.Forms.{IsFormOfPort, FormIn}
 use Rattle.graph_plan.specs.working.SoundWires.{HasFormatOf, IsFormatted}
 use Rattle.graph_plan.specs.working.Remembering.{HasSomeFormat}

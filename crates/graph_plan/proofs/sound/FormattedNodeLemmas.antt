@@ -22,7 +22,7 @@ use Rattle.port_model.specs.SoundPorts.{Admits, IsSoundPort, IsSoundNode, AreSou
 use Rattle.port_model.proofs.NodeLemmas.{at_place, at_port, port_at}
 use Rattle.port_model.proofs.ValueLemmas.{own_value, free_value, some_of, some_is, only_value}
 use Rattle.port_model.proofs.FormLemmas.{has_form}
-use Rattle.link_negotiation.proofs.GivingLemmas.{there}
+use Rattle.link_negotiation.proofs.MayBeGivenLemmas.{there}
 use Rattle.graph_lines.specs.Forms.{IsFormOfPort, FormIn}
 use Rattle.graph_plan.specs.working.Remembering.{HasSomeFormat}
 use Rattle.graph_plan.proofs.sound.FormLemmas.{one_number, rate_shared, IsFormattedNode, value_shared}

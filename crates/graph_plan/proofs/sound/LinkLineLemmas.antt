@@ -32,7 +32,7 @@ use Rattle.link_negotiation.specs.declared.negotiation.Linked.TheVariants as L
 use Rattle.link_negotiation.specs.Links.{LinkState, joins, link_of, is_synchronous, are_linked}
 use Rattle.link_negotiation.specs.LinkOutcome.{given, formatted, IsNewLink, IsLinkOutcome, LeavesLink}
 use Rattle.link_negotiation.specs.Negotiation.{IsCount, MeetsIn, SharesBuffers}
-use Rattle.link_negotiation.proofs.GivingLemmas.{there}
+use Rattle.link_negotiation.proofs.MayBeGivenLemmas.{there}
 use Rattle.graph_lines.specs.declared.graph.Graph.{Graph}
 use Rattle.graph_lines.specs.declared.graph.Stepped.TheVariants as T
 use Rattle.graph_lines.specs.declared.standing.Standing.{Standing}

@@ -18,7 +18,7 @@ use Rattle.port_model.proofs.SharingLemmas.{within_number}
 use Rattle.link_negotiation.specs.declared.common_formats.Negotiated.TheVariants as negotiated
 use Rattle.link_negotiation.specs.Negotiation.{Negotiates, Agrees}
 use Rattle.link_negotiation.specs.LinkOutcome.{given, formatted, MayBeGiven}
-use Rattle.link_negotiation.proofs.GivingLemmas.{there, elsewhere, gives_own, gives_other, output_agrees, input_agrees}
+use Rattle.link_negotiation.proofs.MayBeGivenLemmas.{there, elsewhere, gives_own, gives_other, output_agrees, input_agrees}
 use Rattle.graph_plan.specs.working.SoundWires.{HasFormatOf, IsFormatted}
 use Rattle.graph_plan.specs.working.Remembering.{Stands}
 use Rattle.graph_plan.proofs.sound.StandsLemmas.{with_port_keeps, port_stays, port_given}

@@ -14,7 +14,7 @@ use Rattle.port_model.specs.PortState.{IsPort}
 use Rattle.port_model.specs.SoundPorts.{IsSoundNode}
 use Rattle.port_model.proofs.NodeLemmas.{at_place, at_port}
 use Rattle.port_model.proofs.FormLemmas.{rate_in_range, channels_in_range}
-use Rattle.link_negotiation.proofs.GivingLemmas.{there}
+use Rattle.link_negotiation.proofs.MayBeGivenLemmas.{there}
 use Rattle.graph_lines.specs.declared.graph.Graph.{Graph}
 use Rattle.graph_lines.specs.declared.wire.Wire.{Wire}
 use Rattle.graph_lines.specs.Activity.{standing, nobody, HasWire}

@@ -31,7 +31,7 @@ use Rattle.port_model.specs.PortState.{IsPort}
 use Rattle.port_model.proofs.NodeLemmas.{at_port, port_at}
 use Rattle.link_negotiation.specs.declared.link.Link.{Link}
 use Rattle.link_negotiation.specs.Links.{link_of, is_synchronous}
-use Rattle.link_negotiation.proofs.GivingLemmas.{there}
+use Rattle.link_negotiation.proofs.MayBeGivenLemmas.{there}
 use Rattle.graph_lines.specs.declared.graph.Graph.{Graph}
 use Rattle.graph_lines.specs.declared.wire.Wire.{Wire}
 use Rattle.graph_lines.specs.Activity.{standing, is_live, live_wires, HasWire}

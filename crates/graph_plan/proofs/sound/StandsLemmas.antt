@@ -17,7 +17,7 @@ use Rattle.port_model.proofs.ReleaseLemmas.{nodes_buffered}
 use Rattle.port_model.proofs.TakingLemmas.{nodes_taken}
 use Rattle.port_model.proofs.ValueLemmas.{some_is}
 use Rattle.link_negotiation.specs.LinkOutcome.{given, MayBeGiven}
-use Rattle.link_negotiation.proofs.GivingLemmas.{IsThere, there, elsewhere, taken_given, kept_given}
+use Rattle.link_negotiation.proofs.MayBeGivenLemmas.{IsThere, there, elsewhere, taken_given, kept_given}
 use Rattle.graph_lines.specs.Forms.{IsFormOfPort, FormIn}
 use Rattle.graph_plan.specs.working.Remembering.{HasSomeFormat, Stands}
 use Rattle.graph_plan.proofs.lists.ElementLemmas.{changed_keeps}

@@ -1,5 +1,5 @@
 -- The counts are those of the two ports.
-use Rattle.link_negotiation.proofs.GivingLemmas.{shares, there}
+use Rattle.link_negotiation.proofs.MayBeGivenLemmas.{shares, there}
 use Rattle.link_negotiation.proofs.negotiation.count_of.Goals as goal
 
 pub returns-clause-count : goal.returns-clause-count

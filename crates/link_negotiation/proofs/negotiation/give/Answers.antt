@@ -1,6 +1,6 @@
 -- A port that has a format keeps it, and one that has none takes it.
 use Rattle.std.proofs.Common.{◌∙◌}
-use Rattle.link_negotiation.proofs.GivingLemmas.{there, lacks, has, taken_given, kept_given}
+use Rattle.link_negotiation.proofs.MayBeGivenLemmas.{there, lacks, has, taken_given, kept_given}
 use Rattle.link_negotiation.proofs.negotiation.give.Goals as goal
 
 pub returns-then-not-has_format-clause-given : goal.returns-then-not-has_format-clause-given

@@ -4,7 +4,7 @@ use Rattle.std.proofs.Math.ListN.{set}
 use Rattle.link_negotiation.specs.declared.link.Link.{Link}
 use Rattle.link_negotiation.specs.Links.{LinkState}
 use Rattle.link_negotiation.specs.working.Searching.{IsBounded}
-use Rattle.link_negotiation.proofs.SearchLemmas.{IsExpanding, expanding_begins, expanding_goes_on, expanding_ends}
+use Rattle.link_negotiation.proofs.SearchingLemmas.{IsExpanding, expanding_begins, expanding_goes_on, expanding_ends}
 use Rattle.link_negotiation.proofs.reachability.expand.Goals as goal
 
 pub links-init : goal.links-init

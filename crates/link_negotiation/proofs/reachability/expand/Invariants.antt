@@ -1,5 +1,5 @@
 -- The links that are looked at lead to what is reached.
-use Rattle.link_negotiation.proofs.SearchLemmas.{IsExpanding}
+use Rattle.link_negotiation.proofs.SearchingLemmas.{IsExpanding}
 use Rattle.link_negotiation.proofs.reachability.expand.Given as goal
 
 abbrev pub invariant-links : goal.invariant-links

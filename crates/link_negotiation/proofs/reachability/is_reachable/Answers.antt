@@ -1,6 +1,6 @@
 -- What is reached when all are taken is what a walk leads to.
 use Rattle.std.proofs.Common.{sym, ◌∙◌}
-use Rattle.link_negotiation.proofs.SearchLemmas.{search_begins, search_goes_on, search_ends, taken_below}
+use Rattle.link_negotiation.proofs.SearchingLemmas.{search_begins, search_goes_on, search_ends, taken_below}
 use Rattle.link_negotiation.proofs.reachability.is_reachable.Goals as goal
 
 pub nodes-init : goal.nodes-init

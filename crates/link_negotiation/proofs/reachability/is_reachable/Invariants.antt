@@ -1,6 +1,6 @@
 -- The nodes that are taken are expanded, and a walk leads to each that is reached.
 use Rattle.std.proofs.Common.{◌-◌}
-use Rattle.link_negotiation.proofs.SearchLemmas.{IsSearched}
+use Rattle.link_negotiation.proofs.SearchingLemmas.{IsSearched}
 use Rattle.link_negotiation.proofs.reachability.is_reachable.Given as goal
 
 abbrev pub invariant-nodes : goal.invariant-nodes

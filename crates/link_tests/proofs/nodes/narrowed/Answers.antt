@@ -6,7 +6,7 @@ use Rattle.port_model.specs.Offers.{new_node}
 use Rattle.port_model.specs.PortState.{port_count_of}
 use Rattle.port_model.specs.SoundPorts.{AreSoundNodes}
 use Rattle.port_model.specs.Narrowing.{Narrows}
-use Rattle.link_negotiation.proofs.GivingLemmas.{there}
+use Rattle.link_negotiation.proofs.MayBeGivenLemmas.{there}
 use Rattle.link_tests.proofs.KeptLemmas.{narrow_keeps, counted_still, counted_added, counted_none}
 use Rattle.link_tests.proofs.nodes.narrowed.Goals as goal
 

@@ -1,5 +1,5 @@
 -- The outcome is the only right one.
-use Rattle.link_negotiation.proofs.OnceLemmas.{only_outcome}
+use Rattle.link_negotiation.proofs.OneLinkOutcomeLemmas.{only_outcome}
 use Rattle.link_negotiation.proofs.links.Links.link.Goals as goal
 
 pub returns-clause-only : goal.returns-clause-only

@@ -5,7 +5,7 @@ use Rattle.port_model.specs.declared.port_state.Node.{Node}
 use Rattle.port_model.specs.PortState.{AtPort, port_count_of}
 use Rattle.port_model.proofs.NodeLemmas.{count_kept}
 use Rattle.link_negotiation.specs.LinkOutcome.{MayBeGiven, given}
-use Rattle.link_negotiation.proofs.GivingLemmas.{gives_own, gives_other, elsewhere}
+use Rattle.link_negotiation.proofs.MayBeGivenLemmas.{gives_own, gives_other, elsewhere}
 use Rattle.link_negotiation.proofs.links.Links.make.Goals as goal
 
 pub give-requires-clause-format : goal.give-requires-clause-format

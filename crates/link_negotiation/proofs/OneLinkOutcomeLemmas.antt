@@ -29,7 +29,7 @@ use Rattle.link_negotiation.specs.declared.negotiation.Linked.TheVariants.{Made,
 use Rattle.link_negotiation.specs.Links.{LinkState, are_linked}
 use Rattle.link_negotiation.specs.Negotiation.{OffersAt, Settles, SettlesFrom, Negotiates, IsCount, MeetsIn, SharesBuffers}
 use Rattle.link_negotiation.specs.LinkOutcome.{IsNewLink, IsSettled, IsLinkOutcome}
-use Rattle.link_negotiation.proofs.GivingLemmas.{IsThere, there}
+use Rattle.link_negotiation.proofs.MayBeGivenLemmas.{IsThere, there}
 
 -- of two numbers neither is less
 neither : (a b : ℕ) → (a < b → ⊥) → (b < a → ⊥) → a ≡ b
