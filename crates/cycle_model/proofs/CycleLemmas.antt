@@ -33,7 +33,7 @@ use Rattle.cycle_model.specs.Progress.{received_until, received_before, nothing,
 use Rattle.cycle_model.specs.working.UnderWay.{IsUnderWay, IsCycle}
 use Rattle.cycle_model.proofs.SingleEpochLemmas.{any_map, takes}
 use Rattle.cycle_model.proofs.EpochLemmas.{before}
-use Rattle.cycle_model.proofs.SettledLemmas.{map_agree, known_epoch, outputs_solve}
+use Rattle.cycle_model.proofs.OutputsLemmas.{map_agree, known_epoch, outputs_solve}
 use Rattle.cycle_model.proofs.NodeOrderLemmas.{among_last, among_kept, among_other}
 use Rattle.cycle_model.proofs.DepthLemmas.{node_small}
 use Rattle.cycle_model.proofs.ProgressLemmas.{received_active, received_idle, released_is}

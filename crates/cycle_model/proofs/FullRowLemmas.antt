@@ -34,7 +34,7 @@ use Rattle.cycle_model.proofs.DepthLemmas.{depth, depth_less, depth_small, node_
 use Rattle.cycle_model.proofs.EpochLemmas.{before, of_epoch}
 use Rattle.cycle_model.proofs.KindLemmas.{kind_rows}
 use Rattle.cycle_model.proofs.ProgressLemmas.{filter_more, stream_parts}
-use Rattle.cycle_model.proofs.SettledLemmas.{known_epoch, outputs_solve}
+use Rattle.cycle_model.proofs.OutputsLemmas.{known_epoch, outputs_solve}
 use Rattle.cycle_model.proofs.SingleEpochLemmas.{takes}
 
 -- the sum of full rows is full

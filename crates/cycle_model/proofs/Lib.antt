@@ -10,7 +10,7 @@ pub mod NodeOrderLemmas
 pub mod OutcomeLemmas
 pub mod ProgressLemmas
 pub mod RowLemmas
-pub mod SettledLemmas
+pub mod OutputsLemmas
 pub mod SingleEpochLemmas
 pub mod SoundFormLemmas
 pub mod SoundPlanLemmas

@@ -23,7 +23,7 @@ use Rattle.cycle_model.specs.Progress.{received_until, received_before, begun}
 use Rattle.cycle_model.specs.Renderable.{IsRenderable}
 use Rattle.cycle_model.proofs.CycleLemmas.{active_in, inputs_same}
 use Rattle.cycle_model.proofs.ProgressLemmas.{stream_parts}
-use Rattle.cycle_model.proofs.SettledLemmas.{outputs_solve}
+use Rattle.cycle_model.proofs.OutputsLemmas.{outputs_solve}
 use Rattle.node_state.specs.Streams.{followed, output_now}
 use Rattle.node_progress.specs.declared.score.Score.{Score}
 use Rattle.node_progress.specs.Standing.{port_at, comes_in, goes_out}
