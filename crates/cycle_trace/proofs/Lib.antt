@@ -1,4 +1,4 @@
 pub mod ReadingLemmas
-pub mod SplitLemmas
+pub mod SpacedLemmas
 pub mod TextLemmas
-pub mod TraceLemmas
+pub mod TraceReadingLemmas

@@ -19,7 +19,7 @@ use Rattle.cycle_trace.specs.EventLines.{late_nodes}
 use Rattle.cycle_trace.specs.Printable.{IsNode}
 use Rattle.cycle_trace.specs.working.EventWords.{node_said, late_said, event_said}
 use Rattle.cycle_trace.specs.TraceReading.{is_space, IsLineOf, AreNames}
-use Rattle.cycle_trace.proofs.SplitLemmas.{IsWord, words_split}
+use Rattle.cycle_trace.proofs.SpacedLemmas.{IsWord, words_split}
 
 -- a number has no space
 digit_word : (d : ℕ) → IsWord ((48 + d) ∷ [])

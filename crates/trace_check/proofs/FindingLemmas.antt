@@ -20,7 +20,7 @@ use Rattle.cycle_trace.specs.working.EventWords.{event_said}
 use Rattle.cycle_trace.specs.Printable.{NamesNodes}
 use Rattle.cycle_trace.specs.TraceReading.{is_line_feed, without_empty_last, trace_lines, NumbersFit, IsLineOf, IsFirstFault, AreNames}
 use Rattle.cycle_trace.proofs.ReadingLemmas.{is_said}
-use Rattle.cycle_trace.proofs.TraceLemmas.{line_then}
+use Rattle.cycle_trace.proofs.TraceReadingLemmas.{line_then}
 use Rattle.trace_check.specs.declared.checking.Verdict.{Verdict}
 use Rattle.trace_check.specs.declared.checking.Verdict.TheVariants.{Legal, Illegal}
 use Rattle.trace_check.specs.declared.trace.Finding.{Finding}

@@ -1,4 +1,4 @@
-use Rattle.cycle_trace.proofs.TraceLemmas.{line_then}
+use Rattle.cycle_trace.proofs.TraceReadingLemmas.{line_then}
 use Rattle.cycle_trace.proofs.event_reading.next_line.Goals as goal
 
 pub returns-in-Some-clause-lines : goal.returns-in-Some-clause-lines

@@ -1,6 +1,6 @@
 use Rattle.std.proofs.Common.{◌∷◌, [], length, ap, subst, arith, length-append}
 use Rattle.cycle_trace.specs.TraceReading.{trace_lines, IsLineOf, IsNoLine}
-use Rattle.cycle_trace.proofs.TraceLemmas.{read_more, first_fault}
+use Rattle.cycle_trace.proofs.TraceReadingLemmas.{read_more, first_fault}
 use Rattle.cycle_trace.proofs.event_reading.read_events.Goals as goal
 
 pub returns-in-None-clause-fault : goal.returns-in-None-clause-fault

@@ -1,5 +1,5 @@
 use Rattle.std.proofs.Common.{◌≡◌, ◌+◌, ◌≤◌, length}
-use Rattle.cycle_trace.proofs.TraceLemmas.{AreRead}
+use Rattle.cycle_trace.proofs.TraceReadingLemmas.{AreRead}
 use Rattle.cycle_trace.proofs.event_reading.read_events.Given as goal
 
 -- the lines that are read are those of the events, and the rest has the others

@@ -1,4 +1,4 @@
-use Rattle.cycle_trace.proofs.TraceLemmas.{line_then}
+use Rattle.cycle_trace.proofs.TraceReadingLemmas.{line_then}
 use Rattle.graph_pictures.proofs.TraceTextLemmas.{one_line}
 use Rattle.graph_pictures.proofs.trace_text.next_line.Goals as goal
 
