@@ -15,7 +15,7 @@ use Rattle.pw_graph.proofs.PrecedenceLemmas.{sound_order}
 use Rattle.trace_check.specs.working.NextEvent.{MayFollow, AreAllowed}
 use Rattle.trace_check.proofs.PlaceLemmas.{is_there}
 use Rattle.trace_check.proofs.NextEventLemmas.{allowed_more}
-use Rattle.trace_check.proofs.LegalLemmas.{start_told, finish_told, start_is, finish_is, allowed_legal}
+use Rattle.trace_check.proofs.AllowedLemmas.{start_told, finish_told, start_is, finish_is, allowed_legal}
 
 module _ (shape : Shape) (cycle : ℕ) where
   -- some events more are allowed, and after them these nodes have finished

@@ -16,7 +16,7 @@ use Rattle.trace_check.specs.declared.following.Front.TheVariants.{Whole, Part}
 use Rattle.trace_check.specs.working.NextEvent.{MayFollow, AreAllowed, HaveFinished}
 use Rattle.trace_check.specs.working.Fronts.{AreSound, GoOn, StopAfter, IsFrontInside}
 use Rattle.trace_check.proofs.NextEventLemmas.{none_allowed, allowed_next, endless}
-use Rattle.trace_check.proofs.LegalLemmas.{legal_allowed, legal_finished, allowed_legal}
+use Rattle.trace_check.proofs.AllowedLemmas.{legal_allowed, legal_finished, allowed_legal}
 use Rattle.trace_check.proofs.CompletingLemmas.{completes}
 
 module _ {X : Type 0} where

@@ -1,7 +1,7 @@
 pub mod PlaceLemmas
 pub mod NodeSetsLemmas
 pub mod NextEventLemmas
-pub mod LegalLemmas
+pub mod AllowedLemmas
 pub mod CompletingLemmas
 pub mod AdmittingLemmas
 pub mod FrontsLemmas
