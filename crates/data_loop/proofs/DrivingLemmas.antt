@@ -22,7 +22,7 @@ use Rattle.io_areas.specs.PooledBoard.{IsPooledBoard}
 use Rattle.io_areas.specs.Ends.{IsReadUpTo}
 use Rattle.node_progress.specs.declared.score.Score.{Score}
 use Rattle.node_progress.specs.Standing.{wide_at}
-use Rattle.node_progress.proofs.FitLemmas.{now_is}
+use Rattle.node_progress.proofs.FitsOutputLemmas.{now_is}
 use Rattle.data_loop.specs.declared.inputs.Input.{Input}
 use Rattle.data_loop.specs.declared.member.Member.{Member}
 use Rattle.data_loop.specs.turns.Ends.{reads_of}

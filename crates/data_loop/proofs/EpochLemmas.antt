@@ -21,7 +21,7 @@ use Rattle.node_progress.specs.Standing.{works_in}
 use Rattle.node_progress.specs.NodeStates.{IsNodeState, first_of}
 use Rattle.node_progress.specs.Restarts.{restart_of, next_first, IsEndOf}
 use Rattle.node_progress.proofs.IdleLemmas.{idle_through}
-use Rattle.node_progress.proofs.RestLemmas.{first_next}
+use Rattle.node_progress.proofs.RestartsLemmas.{first_next}
 use Rattle.data_loop.specs.declared.loop_state.LoopState.{LoopState}
 use Rattle.data_loop.specs.declared.member.Member.{Member}
 use Rattle.data_loop.specs.declared.stage.Stage.{Stage}

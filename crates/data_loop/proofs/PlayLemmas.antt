@@ -46,7 +46,7 @@ use Rattle.data_loop.specs.Members.{input_width, is_read, output_width}
 use Rattle.data_loop.proofs.Playable.{IsPoolFor, MayPlay}
 use Rattle.data_loop.proofs.turns.EndsLemmas.{of_pool, is_of}
 use Rattle.node_progress.proofs.StateLemmas.{epoch_sound}
-use Rattle.node_progress.proofs.FitLemmas.{inputs_alike, now_is}
+use Rattle.node_progress.proofs.FitsOutputLemmas.{inputs_alike, now_is}
 
 few_ports : (kd : Kind) → (input_count kd ≤ 2) × (output_count kd ≤ 2)
 few_ports Source = (omega arith, omega arith)

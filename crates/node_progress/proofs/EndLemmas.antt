@@ -32,7 +32,7 @@ use Rattle.node_progress.specs.declared.score.Score.{Score}
 use Rattle.node_progress.specs.Ends.{received_now, IsNodeAtEnd}
 use Rattle.node_progress.specs.Standing.{port_at, read_by}
 use Rattle.node_progress.specs.NodeStates.{first_of, IsNodeState}
-use Rattle.node_progress.proofs.RestLemmas.{have_cycles, released_past}
+use Rattle.node_progress.proofs.RestartsLemmas.{have_cycles, released_past}
 
 -- AT ANY TIME
 

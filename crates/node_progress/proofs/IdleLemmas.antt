@@ -34,7 +34,7 @@ use Rattle.node_progress.specs.declared.score.Score.{Score}
 use Rattle.node_progress.specs.Standing.{port_at, read_by, HasReceivedBefore, HasReceivedUntil, works_in, works, worked}
 use Rattle.node_progress.specs.NodeStates.{first_of, IsNodeState}
 use Rattle.node_progress.proofs.StateLemmas.{not_released}
-use Rattle.node_progress.proofs.RestLemmas.{nothing_in, have_cycles}
+use Rattle.node_progress.proofs.RestartsLemmas.{nothing_in, have_cycles}
 
 -- a state stands for streams only
 pub alike : (score : Score) (n : ℕ) (s : NodeState) (r q : Received) → r.a ≡ q.a → r.b ≡ q.b → StandsFor s (read_by score n s r)

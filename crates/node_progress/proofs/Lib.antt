@@ -1,8 +1,8 @@
 pub mod NodeLemmas
 pub mod StateLemmas
-pub mod FitLemmas
+pub mod FitsOutputLemmas
 pub mod FreshLemmas
-pub mod RestLemmas
+pub mod RestartsLemmas
 pub mod IdleLemmas
 pub mod FrameLemmas
 pub mod PrepareLemmas

@@ -32,11 +32,11 @@ use Rattle.node_progress.specs.Standing.{port_at, read_by, worked, HasReceivedBe
 use Rattle.node_progress.specs.NodeStates.{first_of, wave_channels_of, IsNodeState}
 use Rattle.node_progress.specs.working.Preparing.{IsMostNamed, wav_of, IsPreparedNode}
 use Rattle.node_progress.specs.Restarts.{restart_of}
-use Rattle.node_progress.proofs.FitLemmas.{wave_found}
+use Rattle.node_progress.proofs.FitsOutputLemmas.{wave_found}
 use Rattle.node_progress.proofs.FrameLemmas.{own_cycles, worked_is, few_cycles}
 use Rattle.node_progress.proofs.FreshLemmas.{named_of, restart_is, named_allowed}
 use Rattle.node_progress.proofs.IdleLemmas.{alike}
-use Rattle.node_progress.proofs.RestLemmas.{restarted_read}
+use Rattle.node_progress.proofs.RestartsLemmas.{restarted_read}
 
 -- THE GREATEST CHANNELS
 

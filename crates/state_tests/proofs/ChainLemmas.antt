@@ -4,7 +4,7 @@ use Rattle.pw_graph.specs.declared.plan.Epoch.{Epoch}
 use Rattle.pw_graph.specs.declared.plan.Plan.{Plan}
 use Rattle.node_progress.specs.declared.score.Score.{Score}
 use Rattle.node_progress.specs.Restarts.{next_first, IsEndOf}
-use Rattle.node_progress.proofs.RestLemmas.{first_next}
+use Rattle.node_progress.proofs.RestartsLemmas.{first_next}
 use Rattle.state_tests.specs.Chain.{IsCycleOf}
 
 module _ (score : Score) (plan : Plan) (k : ℕ) (e : Epoch) (cycle : IsCycleOf score plan k e) (n : ℕ)

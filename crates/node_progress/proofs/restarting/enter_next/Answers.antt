@@ -1,5 +1,5 @@
 use Rattle.std.proofs.Common.{◌∙◌, sym}
-use Rattle.node_progress.proofs.RestLemmas.{stays_state, may_restart, stood, anew}
+use Rattle.node_progress.proofs.RestartsLemmas.{stays_state, may_restart, stood, anew}
 use Rattle.node_progress.proofs.restarting.enter_next.Goals as goal
 
 pub restart-requires-clause-allowed : goal.restart-requires-clause-allowed

@@ -1,5 +1,5 @@
 use Rattle.node_progress.proofs.StateLemmas.{here, part, renderable, before, has_frames, some_left, state_on, quantum_is}
-use Rattle.node_progress.proofs.FitLemmas.{came_long, slices, left_fits, right_fits}
+use Rattle.node_progress.proofs.FitsOutputLemmas.{came_long, slices, left_fits, right_fits}
 use Rattle.node_progress.proofs.working.work.Goals as goal
 
 pub process-requires : goal.process-requires
