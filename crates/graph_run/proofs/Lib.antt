@@ -6,7 +6,7 @@ pub mod ClosingLemmas
 pub mod LoopLemmas
 pub mod EpochLemmas
 pub mod ReadyLemmas
-pub mod KeepingLemmas
+pub mod OutcomesLemmas
 pub mod ThreadLemmas
 pub mod DoneLemmas
 pub mod PrepareLemmas

@@ -3,7 +3,7 @@ use Rattle.std.specs.Prelude.{Contains}
 use Rattle.std.proofs.lemmas.List.{get_or_default}
 use Rattle.data_loop.specs.declared.loop_state.LoopState.{LoopState}
 use Rattle.graph_run.proofs.EpochLemmas.{there}
-use Rattle.graph_run.proofs.KeepingLemmas.{none_more}
+use Rattle.graph_run.proofs.OutcomesLemmas.{none_more}
 use Rattle.graph_run.proofs.outcomes.loop_with_node.Goals as goal
 
 pub returns-then-has_node : goal.returns-then-has_node

@@ -2,7 +2,7 @@ use Rattle.std.proofs.Common.{◌≡◌, ◌<◌, ◌∙◌, ℕ, get_or, sym, a
 use Rattle.std.proofs.lemmas.List.{get_or_default}
 use Rattle.std.proofs.lemmas.Option.{slice_get_within}
 use Rattle.data_loop.specs.declared.loop_state.LoopState.{LoopState}
-use Rattle.graph_run.proofs.KeepingLemmas.{left_on, all_still, left_taken, stream_taken, kept_is}
+use Rattle.graph_run.proofs.OutcomesLemmas.{left_on, all_still, left_taken, stream_taken, kept_is}
 use Rattle.graph_run.proofs.outcomes.take_sink.Goals as goal
 
 pub returns-then-not-is_sink-clause-left : goal.returns-then-not-is_sink-clause-left

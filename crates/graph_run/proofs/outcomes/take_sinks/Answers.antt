@@ -6,7 +6,7 @@ use Rattle.pw_graph.specs.declared.plan.PlanNode.{PlanNode}
 use Rattle.cycle_model.specs.Rendering.{kept_of, rendered_sinks}
 use Rattle.cycle_model.proofs.OutcomeLemmas.{kept_more}
 use Rattle.graph_run.specs.Outcomes.{AreLeftFrom}
-use Rattle.graph_run.proofs.KeepingLemmas.{all_in, left_whole}
+use Rattle.graph_run.proofs.OutcomesLemmas.{all_in, left_whole}
 use Rattle.graph_run.proofs.outcomes.take_sinks.Goals as goal
 
 next : (n : ℕ) → suc n ≡ n + 1
