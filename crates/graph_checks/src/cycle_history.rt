@@ -43,7 +43,7 @@ fn find_start(events: &[Event], cycle: u64, node: u32) -> Option<usize>
 }
 
 // Where a node's Start is; past the end where there is none.
-#[tactic(auto, using(crate::proofs::HistoryLemmas::place_or_end))]
+#[tactic(auto, using(pw_graph::proofs::HistoryLemmas::place_or_end))]
 fn start_place(events: &[Event], cycle: u64, node: u32) -> usize
     ensures { result ≡ start_place events.now cycle node }
 {
@@ -58,7 +58,7 @@ fn find_finish(events: &[Event], cycle: u64, node: u32) -> Option<usize>
 }
 
 // Where a node's Finish is; past the end where there is none.
-#[tactic(auto, using(crate::proofs::HistoryLemmas::place_or_end))]
+#[tactic(auto, using(pw_graph::proofs::HistoryLemmas::place_or_end))]
 fn finish_place(events: &[Event], cycle: u64, node: u32) -> usize
     ensures { result ≡ finish_place events.now cycle node }
 {
@@ -73,7 +73,7 @@ fn find_tick(events: &[Event]) -> Option<usize>
 }
 
 // Where the Tick is; past the end where there is none.
-#[tactic(auto, using(crate::proofs::HistoryLemmas::place_or_end))]
+#[tactic(auto, using(pw_graph::proofs::HistoryLemmas::place_or_end))]
 fn tick_place(events: &[Event]) -> usize
     ensures { result ≡ tick_place events.now }
 {

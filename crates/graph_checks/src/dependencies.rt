@@ -62,7 +62,7 @@ fn is_target(shape: &Shape, m: u32, n: u32) -> bool
     n != shape.driver && is_waiting(shape, n, m)
 }
 
-#[tactic(auto, using(crate::proofs::ShapeLemmas::front_on, crate::proofs::ShapeLemmas::front_off))]
+#[tactic(auto, using(pw_graph::proofs::ShapeLemmas::front_on, pw_graph::proofs::ShapeLemmas::front_off))]
 // Whether the list is that of the node's targets.
 fn has_targets(shape: &Shape, m: u32, targets: &[u32]) -> bool
     ensures { IsTrue result ↔ (targets.now ≡ targets_of shape.now m) }

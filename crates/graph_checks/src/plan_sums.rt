@@ -10,7 +10,7 @@ use pw_graph::{Epoch, Plan, PortForm, ShapeLink, asked};
 use pw_lists::{BLOCK_BYTES_LIMIT, EVENTS_LIMIT, SINK_SAMPLES_LIMIT};
 
 // The sum of two numbers, or the greatest number.
-#[tactic(auto, unfolding(crate::specs::PlanSums::capped))]
+#[tactic(auto, unfolding(pw_graph::specs::PlanSums::capped))]
 fn capped_sum(a: u64, b: u64) -> u64
     ensures { result ≡ capped (a + b) }
 {
@@ -18,7 +18,7 @@ fn capped_sum(a: u64, b: u64) -> u64
 }
 
 // The product of two numbers, or the greatest number.
-#[tactic(auto, unfolding(crate::specs::PlanSums::capped))]
+#[tactic(auto, unfolding(pw_graph::specs::PlanSums::capped))]
 fn capped_product(a: u64, b: u64) -> u64
     ensures { result ≡ capped (a * b) }
 {

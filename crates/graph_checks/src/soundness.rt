@@ -107,7 +107,7 @@ fn all_sound(shape: &Shape) -> bool
         .all(|link| is_sound_link(shape, link))
 }
 
-#[tactic(auto, using(crate::proofs::ShapeLemmas::links_within))]
+#[tactic(auto, using(pw_graph::proofs::ShapeLemmas::links_within))]
 // Whether there are not too many links, each sound, no two with the same two ports, and no loop.
 fn has_sound_links(shape: &Shape) -> bool
     requires { HasSoundNodes shape.now }
