@@ -1,6 +1,6 @@
 -- What a call does.
-use Rattle.std.proofs.Common.{◌≡◌, inr, ℕ, List, [], Ok, Err, subst}
-use Rattle.std.specs.Prelude.{Result}
+use Rattle.std.proofs.Common.{◌≡◌, inr, ℕ, List, Some, Ok, Err, subst}
+use Rattle.std.specs.Prelude.{Option, Result}
 use Rattle.pw_outside.specs.Files.{Held, names_in}
 use Rattle.pw_outside.specs.Output.{Given}
 use Rattle.format_filter.specs.declared.format.Format.{Format}
@@ -8,19 +8,32 @@ use Rattle.pod_text.specs.declared.source.Source.{Source}
 use Rattle.pod_text.specs.declared.source.Source.TheVariants as Src
 use Rattle.pod_text.specs.declared.status.Status.{Status}
 use Rattle.pod_text.specs.declared.status.Status.TheVariants as S
+use Rattle.pod_text.specs.declared.top.Ended.{Ended}
 use Rattle.pod_text.specs.declared.words.Request.{Request}
 use Rattle.pod_text.specs.Delivery.{IsDelivered}
 use Rattle.pod_text.specs.DumpMaking.{IsMadePod}
 use Rattle.pod_text.specs.Making.{IsFormatPod}
 use Rattle.pod_text.specs.Loading.{input_name}
-use Rattle.pod_text.specs.Answers.{IsMade, RunsMake, RunsFormat, IsExplained}
+use Rattle.pod_text.specs.Answers.{IsMade, RunsMake, RunsFormat}
 use Rattle.pod_text.specs.Answers.RunsMake.{done}
 use Rattle.pod_text.specs.Answers.RunsFormat.{offered}
+use Rattle.pod_text.specs.working.Parts.{IsMadeOf}
 
 -- where memory was short, nothing is said of what was read
 pub memory_free : (source : Source) (read : List ℕ) → IsMadePod source read (Err S.Memory)
 memory_free Src.Gains read = tt
 memory_free Src.Dump read = tt
+
+-- of what stands there, what is made of what was read
+made_whole : (source : Source) (stands : Option (List ℕ)) (read : List ℕ) (result : Result (List ℕ) Ended) → stands ≡ Some read
+    → IsMadeOf source read result → IsMade source stands result
+made_whole source stands read (Ok bytes) is h = (read, is, h)
+made_whole source stands read (Err ended) is h = inr (read, is, h)
+
+pub made_read : (source : Source) (stands : Option (List ℕ)) (read shown : List ℕ) (result : Result (List ℕ) Ended)
+    → stands ≡ Some read → shown ≡ read → IsMadeOf source shown result → IsMade source stands result
+made_read source stands read shown result is same h =
+    made_whole source stands read result is (subst (λ (x : List ℕ). IsMadeOf source x result) same h)
 
 -- the bytes that were made are delivered
 pub make_done : (source : Source) (from to bytes shown : List ℕ) (old made new : Held) (given now : Given) (status : Status) (line : List ℕ)
@@ -30,11 +43,6 @@ make_done source from to bytes shown old made new given now status line is held 
     done bytes is
     (subst (λ (h : Held). IsDelivered to bytes 2 h new given now status) held
     (subst (λ (bs : List ℕ). IsDelivered to bs 2 made new given now status) same delivered))
-
--- where memory was short there is no sentence
-pub unexplained : (status : Status) (words : List (List ℕ)) (line text : List ℕ) → text ≡ [] → IsExplained status words line text
-unexplained S.Ok words line text none = none
-unexplained other words line text none = inr none
 
 -- what words are read as, by an equal request
 pub read_as : (r : Result Request Status) (q p : Request) → r ≡ Ok q → q ≡ p → r ≡ Ok p

@@ -13,7 +13,7 @@ use Rattle.pod_text.specs.Delivery.{Puts, IsDelivered}
 use Rattle.pod_text.specs.Loading.{input_name, IsUnloaded}
 use Rattle.pod_text.specs.Making.{IsFormatPod}
 use Rattle.pod_text.specs.DumpMaking.{IsMadePod}
-use Rattle.pod_text.specs.Sentences.{usage_text, sentence_of}
+use Rattle.pod_text.specs.Sentences.{usage_text}
 use Rattle.pod_text.specs.Words.{request_of}
 
 -- what was read is refused, with its line at fault where the status names one
@@ -70,8 +70,3 @@ pub data IsAnswered (words : List (List ℕ)) (old new : Held) (given now : Give
       → IsAnswered words old new given now status line
   short : status ≡ S.Memory → IsUnchanged old new given now
       → IsAnswered words old new given now status line
-
--- the sentence of a status; none where all was done, nor where memory was short for it
-abbrev pub IsExplained : Status → List (List ℕ) → List ℕ → List ℕ → Type 0
-IsExplained S.Ok words line text = text ≡ []
-IsExplained status words line text = (text ≡ sentence_of status words line) ⊎ (text ≡ [])

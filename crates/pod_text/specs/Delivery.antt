@@ -1,6 +1,5 @@
 -- Where the bytes go: a file of this name, or standard output. Source: this project's own.
 use Rattle.std.specs.Prelude.{◌≡◌, ℕ, List, take, option_map, IsTrue, not}
-use Rattle.pw_outside.specs.Causes.{Rose}
 use Rattle.pw_outside.specs.Files.{Held, stored}
 use Rattle.pw_outside.specs.Output.{Given, Gave, GavePart}
 use Rattle.pod_text.specs.declared.status.Status.{Status}
@@ -21,20 +20,6 @@ Puts bytes at old new S.Ok = Gave bytes old new
 Puts bytes at old new (S.WriteFault place) = (place ≡ at) × GavePart bytes old new
 Puts bytes at old new S.Memory = new ≡ old
 Puts bytes at old new status = ⊥
-
--- a failure raised the count
-abbrev pub IsFailed : ℕ → ℕ → Status → Type 0
-IsFailed before now (S.WriteFault place) = Rose before now
-IsFailed before now status = Unit {0}
-
-abbrev pub IsStoring : List ℕ → List ℕ → ℕ → Held → Held → ℕ → ℕ → Status
-    → Type 0
-IsStoring name bytes at old new before now status =
-    Stores name bytes at old new status × IsFailed before now status
-
-abbrev pub IsPutting : List ℕ → ℕ → Given → Given → ℕ → ℕ → Status → Type 0
-IsPutting bytes at old new before now status =
-    Puts bytes at old new status × IsFailed before now status
 
 -- DELIVERED: where the word is `-` put, and the files are as before; else stored, and nothing is
 -- put; the word stands at this place

@@ -11,9 +11,13 @@ pub mod Delivery
 pub mod Showing
 pub mod Sentences
 pub mod Answers
+pub mod Outside
+pub mod FaultCauses
+pub mod Reports
 pub mod ChoiceWords
 pub mod Offers
 pub mod FileWords
 pub mod Alone
 pub mod FormatWords
 pub mod Separators
+pub mod working

@@ -1,7 +1,6 @@
 -- What a load of a list or a text gives, by what stands under its name. Where a load failed or
 -- memory was short, nothing is said of the files. Source: this project's own.
 use Rattle.std.specs.Prelude.{◌≡◌, ℕ, ◌<◌, List, length, codes, if◌then◌else◌, Option, Some, None, Result, Ok, Err}
-use Rattle.pw_outside.specs.Causes.{Rose}
 use Rattle.pod_text.specs.declared.status.Status.{Status}
 use Rattle.pod_text.specs.declared.status.Status.TheVariants as S
 use Rattle.pod_text.specs.Words.{is_dash}
@@ -26,8 +25,3 @@ IsUnloaded stands status = ⊥
 abbrev pub IsLoad : Option (List ℕ) → Result (List ℕ) Status → Type 0
 IsLoad stands (Ok bytes) = stands ≡ Some bytes
 IsLoad stands (Err status) = IsUnloaded stands status
-
--- only a load that failed has a cause outside
-abbrev pub IsCaused : {T : Type 0} → ℕ → ℕ → Result T Status → Type 0
-IsCaused before now (Err (S.ReadFault place)) = Rose before now
-IsCaused before now result = Unit {0}

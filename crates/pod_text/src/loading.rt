@@ -1,7 +1,9 @@
 //! The file that is read.
-ghost use Rattle.std.specs.Prelude.{◌≡◌, IsSome, codes, IfOk};
+ghost use Rattle.std.specs.Prelude.{◌≡◌, IsSome, codes, IfOk, IfErr};
+ghost use Rattle.pw_outside.specs.Causes.{Rose};
 ghost use Rattle.pw_outside.specs.Files.{names_in};
-ghost use Rattle.pod_text.specs.Loading.{input_name, source_bytes_limit, IsLoad, IsCaused};
+ghost use Rattle.pod_text.specs.Loading.{input_name, source_bytes_limit, IsLoad};
+ghost use Rattle.pod_text.specs.working.Parts.{HasCauses};
 
 use crate::status::Status;
 use crate::words::is_dash;
@@ -37,7 +39,8 @@ fn name_of(alloc: Global, word: &Text) -> Result<Text, Memory>
 pub(crate) fn load<F: Files>(alloc: Global, files: &mut F, word: &Text) -> Result<Items<u8>, Status>
     ensures told { IsSome (F.held files.old)
         → IsLoad (names_in (F.held files.old) (input_name word.now)) result }
-    ensures cause { IsCaused (F.load_faults files.old) (F.load_faults files.new) result }
+    ensures cause { IfErr result
+        (HasCauses (Rose (F.load_faults files.old) (F.load_faults files.new)) ⊥) }
     ensures held { F.held files.new ≡ F.held files.old }
     ensures stores { F.store_faults files.new ≡ F.store_faults files.old }
 {

@@ -1,10 +1,17 @@
 //! The whole program: what words ask for, done, and a sentence where it is refused.
-ghost use Rattle.std.specs.Prelude.{◌≡◌, IsSome, List, ℕ, map, string_bytes, Err, IfOk};
+ghost use Rattle.std.specs.Prelude.{◌≡◌, IsSome, map, string_bytes, Err, IfOk, IfErr};
+ghost use Rattle.pw_outside.specs.Causes.{Rose};
 ghost use Rattle.pw_outside.specs.Files.{names_in};
 ghost use Rattle.format_filter.specs.CommonFormat.{IsSoundFormat};
 ghost use Rattle.pod_text.specs.Loading.{input_name};
 ghost use Rattle.pod_text.specs.DumpMaking.{IsMadePod};
-ghost use Rattle.pod_text.specs.Answers.{IsRefusedBy, IsMade, RunsMake, RunsFormat, IsAnswered, IsExplained};
+ghost use Rattle.pod_text.specs.Answers.{IsRefusedBy, IsMade, RunsMake, RunsFormat, IsAnswered};
+ghost use Rattle.pod_text.specs.FaultCauses.{WriteFailed, Caused, IsUsage};
+ghost use Rattle.pod_text.specs.FileWords.{is_dash};
+ghost use Rattle.pod_text.specs.Outside.{outside};
+ghost use Rattle.pod_text.specs.Reports.{said_of, IsTold};
+ghost use Rattle.pod_text.specs.Words.{request_of};
+ghost use Rattle.pod_text.specs.working.Parts.{IsMadeOf, HasCauses};
 
 use crate::delivering::{deliver, put};
 use crate::loading::load;
@@ -26,12 +33,12 @@ pub struct Ended {
     pub line: Text,
 }
 
-/// What a call did: how it ended, and a sentence for people. There is none where all was done, nor
-/// where memory was short for it.
+/// What a call did: how it ended, and a sentence for people, or that memory was short for it. It is
+/// empty where all was done, and nowhere else.
 #[derive(Drop)]
 pub struct Report {
     pub status: Status,
-    pub sentence: Text,
+    pub sentence: Result<Text, Memory>,
 }
 
 // What was read is refused, with the line at fault.
@@ -66,6 +73,16 @@ fn refused_by(alloc: Global, source: Source, read: &[u8], status: Status) -> End
     }
 }
 
+// The bytes of the POD of what was read.
+fn made_of(alloc: Global, source: Source, read: &[u8]) -> Result<Items<u8>, Ended>
+    ensures { IsMadeOf source read.now result }
+{
+    match made_pod(alloc, source, read) {
+        Ok(bytes) => Ok(bytes),
+        Err(status) => Err(refused_by(alloc, source, read, status)),
+    }
+}
+
 // The bytes of the POD of the file that a word names.
 fn made<F: Files>(
     alloc: Global,
@@ -75,17 +92,17 @@ fn made<F: Files>(
 ) -> Result<Items<u8>, Ended>
     ensures told { IsSome (F.held files.old)
         → IsMade source (names_in (F.held files.old) (input_name from.now)) result }
+    ensures cause { IfErr result (λ ended. HasCauses
+        (Rose (F.load_faults files.old) (F.load_faults files.new)) ⊥ ended.status) }
     ensures held { F.held files.new ≡ F.held files.old }
+    ensures stores { F.store_faults files.new ≡ F.store_faults files.old }
 {
     match load(alloc, files, from) {
         Err(status) => Err(Ended {
             status,
             line: Items::new(alloc),
         }),
-        Ok(read) => match made_pod(alloc, source, read.as_slice()) {
-            Ok(bytes) => Ok(bytes),
-            Err(status) => Err(refused_by(alloc, source, read.as_slice(), status)),
-        },
+        Ok(read) => made_of(alloc, source, read.as_slice()),
     }
 }
 
@@ -101,6 +118,9 @@ fn run_make<F: Files, O: Sink>(
     ensures told { IsSome (F.held files.old)
         → RunsMake source from.now to.now (F.held files.old) (F.held files.new)
         (O.given out.old) (O.given out.new) result.status result.line }
+    ensures cause { HasCauses (Rose (F.load_faults files.old) (F.load_faults files.new))
+        (WriteFailed (is_dash to.now) (outside F.Files O.Sink files.old out.old)
+        (outside F.Files O.Sink files.new out.new)) result.status }
 {
     match made(alloc, files, source, from) {
         Err(ended) => ended,
@@ -120,8 +140,11 @@ fn run_format<F: Files, O: Sink>(
     format: &Format,
 ) -> Status
     requires { IsSoundFormat format.now }
-    ensures { RunsFormat to.now format.now (F.held files.old) (F.held files.new)
+    ensures done { RunsFormat to.now format.now (F.held files.old) (F.held files.new)
         (O.given out.old) (O.given out.new) result }
+    ensures cause { HasCauses ⊥ (WriteFailed (is_dash to.now)
+        (outside F.Files O.Sink files.old out.old) (outside F.Files O.Sink files.new out.new))
+        result }
 {
     match format_pod(alloc, format) {
         Err(status) => status,
@@ -134,6 +157,10 @@ fn do_words<F: Files, O: Sink>(alloc: Global, words: &[String], files: &mut F, o
     ensures told { IsSome (F.held files.old)
         → IsAnswered (map string_bytes words.now) (F.held files.old) (F.held files.new)
         (O.given out.old) (O.given out.new) result.status result.line }
+    ensures cause { Caused (request_of (map string_bytes words.now))
+        (outside F.Files O.Sink files.old out.old) (outside F.Files O.Sink files.new out.new)
+        result.status }
+    ensures usage { IsUsage (request_of (map string_bytes words.now)) result.status }
 {
     match read_words(alloc, words) {
         Err(status) => Ended {
@@ -156,8 +183,8 @@ fn do_words<F: Files, O: Sink>(alloc: Global, words: &[String], files: &mut F, o
 
 // The sentence of how a call ended; none where all was done.
 fn explained(alloc: Global, words: &[String], ended: &Ended) -> Result<Text, Memory>
-    ensures { IfOk result
-        (IsExplained ended.now.status (map string_bytes words.now) ended.now.line) }
+    ensures { IfOk result (λ text.
+        text ≡ said_of ended.now.status (map string_bytes words.now) ended.now.line) }
 {
     match ended.status {
         Status::Ok => Ok(Items::new(alloc)),
@@ -180,20 +207,20 @@ pub fn make_pod<F: Files, O: Sink>(
     out: &mut O,
 ) -> Report
     // What was done, by what the files hold, where that is told; and the sentence for it.
-    ensures told { IsSome (F.held files.old) → (line : List ℕ)
-        × IsAnswered (map string_bytes words.now) (F.held files.old) (F.held files.new)
-        (O.given out.old) (O.given out.new) result.status line
-        × IsExplained result.status (map string_bytes words.now) line result.sentence }
+    ensures told { IsTold (map string_bytes words.now)
+        (outside F.Files O.Sink files.old out.old) (outside F.Files O.Sink files.new out.new)
+        result }
+
+    // Each fault has its cause outside, and Usage in the words, whether the files are told or not.
+    ensures cause { Caused (request_of (map string_bytes words.now))
+        (outside F.Files O.Sink files.old out.old) (outside F.Files O.Sink files.new out.new)
+        result.status }
+    ensures usage { IsUsage (request_of (map string_bytes words.now)) result.status }
 {
     let ended = do_words(alloc, words, files, out);
-    match explained(alloc, words, &ended) {
-        Ok(sentence) => Report {
-            status: ended.status,
-            sentence,
-        },
-        Err(_memory) => Report {
-            status: ended.status,
-            sentence: Items::new(alloc),
-        },
+    let sentence = explained(alloc, words, &ended);
+    Report {
+        status: ended.status,
+        sentence,
     }
 }

@@ -1,0 +1,2 @@
+-- What the parts of a call are written with. Source: this project's own.
+pub mod Parts
