@@ -1,10 +1,11 @@
 //! What is stored and said of words and lists.
 
-use crate::exit_of;
+use crate::program::run_read;
+use crate::unread::Unread;
 use control_sequence::Point;
 use pod_text::{DumpWhy, ListWhy, Status, make_pod, read_gains};
 use pw_lists::{Items, Memory, Text};
-use pw_outside::{Files, Loaded, SureFiles, SureSink};
+use pw_outside::{Files, Loaded, MemFiles, SureFiles, SureSink};
 use std::alloc::Global;
 use std::process::Abort;
 use std::test::Fail;
@@ -43,7 +44,10 @@ fn expect<R: AllocGlobal + Abort>(
     let mut out = SureSink::new(alloc)?;
     let report = make_pod(alloc, words.as_slice(), &mut files, &mut out);
     assert!(rt; report.status == status, "{line}");
-    assert!(rt; report.sentence.as_slice() == sentence.as_bytes(), "{line}");
+    assert!(rt;
+        report.sentence?.as_slice() == sentence.as_bytes(),
+        "{line}"
+    );
     assert!(rt; out.bytes().as_slice() == put, "{line}");
     match files.load(alloc, &text(alloc, "o")?, 1000) {
         Ok(Loaded::Whole(bytes)) => match stored {
@@ -455,6 +459,73 @@ fn each_status_has_its_number(rt: HostRuntime) {
         (Status::Memory, 9),
     ];
     for (status, number) in rows {
-        assert!(rt; exit_of(status) == number, "{number}");
+        assert!(rt; status.number() == number, "{number}");
     }
+}
+
+// The whole program on words, over files of which the first load is to fail where that is said: it
+// ends with this number, and puts these bytes on standard output and these on the error output.
+fn ends<R: AllocGlobal + Abort>(
+    rt: &R,
+    words: Result<Items<String>, Unread>,
+    fails: bool,
+    number: u8,
+    put: &[u8],
+    said: &str,
+) -> Result<(), Memory> {
+    let alloc = rt.alloc();
+    let mut files = MemFiles::new(alloc)?;
+    files.add_file(alloc, &text(alloc, "s")?, b"0 -256\n".as_slice())?;
+    if fails {
+        files.fail_load(alloc, 1)?;
+    }
+    let (mut out, mut errors) = (SureSink::new(alloc)?, SureSink::new(alloc)?);
+    let exit = run_read(alloc, words, &mut files, &mut out, &mut errors);
+    assert!(rt; exit.number == number, "{said}");
+    assert!(rt; exit.said == Ok(()), "{said}");
+    assert!(rt; out.bytes().as_slice() == put, "{said}");
+    assert!(rt; errors.bytes().as_slice() == said.as_bytes(), "{said}");
+    Ok(())
+}
+
+#[test]
+fn a_sentence_goes_to_the_error_output_alone(rt: HostRuntime) -> Result<(), Fail> {
+    let alloc = rt.alloc();
+    let absent = "pipegraph-pods: \"t\": there is no such file\n";
+    let unread = "pipegraph-pods: \"s\": it cannot be read\n";
+    ends(&rt, Ok(words_of(alloc, "gains s o")?), false, 0, b"", "")?;
+    ends(&rt, Ok(words_of(alloc, "gains s o")?), true, 6, b"", unread)?;
+    ends(
+        &rt,
+        Ok(words_of(alloc, "gains t -")?),
+        false,
+        5,
+        b"",
+        absent,
+    )?;
+    ends(
+        &rt,
+        Ok(words_of(alloc, "--help")?),
+        false,
+        0,
+        USAGE.as_bytes(),
+        "",
+    )?;
+    Ok(())
+}
+
+#[test]
+fn words_that_could_not_be_read_have_a_sentence(rt: HostRuntime) -> Result<(), Fail> {
+    let rows = [
+        (
+            Unread::NoText { word: 2 },
+            1,
+            "pipegraph-pods: word 2 is not text in UTF-8\n",
+        ),
+        (Unread::Memory, 9, "pipegraph-pods: no memory was left\n"),
+    ];
+    for (unread, number, said) in rows {
+        ends(&rt, Err(unread), false, number, b"", said)?;
+    }
+    Ok(())
 }

@@ -1,0 +1,41 @@
+-- How the program ends, by its words. Source: this project's own.
+use Rattle.std.specs.Prelude.{◌≡◌, ℕ, List, Result, IsSome}
+use Rattle.pw_outside.specs.declared.files.FileFail.{FileFail}
+use Rattle.pw_outside.specs.Causes.{HasCause}
+use Rattle.pw_outside.specs.Output.{Given, IsPut}
+use Rattle.pod_text.specs.declared.status.Status.{Status}
+use Rattle.pod_text.specs.Answers.{IsAnswered}
+use Rattle.pod_text.specs.FaultCauses.{Caused, IsUsage}
+use Rattle.pod_text.specs.Outside.{Outside}
+use Rattle.pod_text.specs.Reports.{said_of}
+use Rattle.pod_text.specs.Statuses.{status_number}
+use Rattle.pod_text.specs.Words.{request_of}
+use Rattle.pw_pods.specs.declared.program.Exit.{Exit}
+use Rattle.pw_pods.specs.declared.unread.Unread.{Unread}
+use Rattle.pw_pods.specs.UnreadText.{unread_text, unread_number}
+
+-- a text was put, or why it was not: its count of faults rose, or memory was short
+pub record IsSaid (text : List ℕ) (faults faults_now : ℕ) (given given_now : Given)
+    (said : Result (Unit {0}) FileFail) : Type 0 where
+  pub put : IsPut text given given_now said
+  pub cause : HasCause faults faults_now said
+
+-- THE NUMBER is that of a status, which files and output follow, and the sentence of that status is
+-- put on the error output
+pub record HasEnded (words : List (List ℕ)) (before now : Outside) (faults faults_now : ℕ)
+    (given given_now : Given) (exit : Exit) : Type 0 where
+  pub status : Status
+  pub line : List ℕ
+  pub number : exit.number ≡ status_number status
+  pub answer : IsSome before.held
+      → IsAnswered words before.held now.held before.given now.given status line
+  pub cause : Caused (request_of words) before now status
+  pub usage : IsUsage (request_of words) status
+  pub said : IsSaid (said_of status words line) faults faults_now given given_now exit.said
+
+-- of words that could not be read the sentence is put on the error output, and nothing else is done
+pub record HasRefused (unread : Unread) (before now : Outside) (faults faults_now : ℕ)
+    (given given_now : Given) (exit : Exit) : Type 0 where
+  pub number : exit.number ≡ unread_number unread
+  pub outside : now ≡ before
+  pub said : IsSaid (unread_text unread) faults faults_now given given_now exit.said
