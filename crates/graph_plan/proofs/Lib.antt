@@ -10,5 +10,5 @@ pub mod ReadOffLemmas
 pub mod lists
 pub mod sound
 pub mod streams
-pub mod parts
+pub mod linked_parts
 pub mod one

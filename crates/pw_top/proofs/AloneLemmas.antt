@@ -29,11 +29,11 @@ use Rattle.graph_plan.specs.Parted.{IsParted}
 use Rattle.graph_plan.specs.PartLines.{is_line_of, part_lines}
 use Rattle.graph_plan.specs.Parts.{is_among, IsPartition}
 use Rattle.graph_plan.specs.Planned.{IsPlanned}
-use Rattle.graph_plan.proofs.parts.ApartLemmas.{parts_apart}
-use Rattle.graph_plan.proofs.parts.OutsideLemmas.{outside_ends}
-use Rattle.graph_plan.proofs.parts.PartedLemmas.{parted_nodes, parted_each}
-use Rattle.graph_plan.proofs.parts.PartLinesLemmas.{makes_none_of}
-use Rattle.graph_plan.proofs.parts.PartitionLemmas.{among_has}
+use Rattle.graph_plan.proofs.linked_parts.ApartLemmas.{parts_apart}
+use Rattle.graph_plan.proofs.linked_parts.OutsideLemmas.{outside_ends}
+use Rattle.graph_plan.proofs.linked_parts.PartedLemmas.{parted_nodes, parted_each}
+use Rattle.graph_plan.proofs.linked_parts.PartLinesLemmas.{makes_none_of}
+use Rattle.graph_plan.proofs.linked_parts.PartitionLemmas.{among_has}
 use Rattle.cycle_model.specs.Rendering.{rendered_sinks, rendered_peaks, kept_of, end_stream, is_meter}
 use Rattle.cycle_model.specs.Rendering.{peak_at as peak_of_node}
 use Rattle.pw_lists.specs.Samples.{peak_of}

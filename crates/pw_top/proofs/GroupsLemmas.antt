@@ -32,9 +32,9 @@ use Rattle.graph_plan.specs.PartLines.{is_line_of, part_lines, part_script}
 use Rattle.graph_plan.specs.Parts.{is_among, IsPartition}
 use Rattle.graph_plan.specs.Planned.{IsPlanned}
 use Rattle.graph_plan.specs.working.SoundGraph.{IsJoining}
-use Rattle.graph_plan.proofs.parts.JoiningLemmas.{parted_lines}
-use Rattle.graph_plan.proofs.parts.PartLinesLemmas.{kinds_same, names_kept, ranges_kept, kinds_kept, ports_kept}
-use Rattle.graph_plan.proofs.parts.PartitionLemmas.{has_among}
+use Rattle.graph_plan.proofs.linked_parts.JoiningLemmas.{parted_lines}
+use Rattle.graph_plan.proofs.linked_parts.PartLinesLemmas.{kinds_same, names_kept, ranges_kept, kinds_kept, ports_kept}
+use Rattle.graph_plan.proofs.linked_parts.PartitionLemmas.{has_among}
 use Rattle.graph_plan.proofs.PlannedLemmas.{named_are}
 use Rattle.cycle_model.specs.Rendering.{rendered_sinks}
 use Rattle.cycle_model.specs.WavesFit.{WavesFit}

@@ -10,7 +10,7 @@ use Rattle.graph_lines.specs.Activity.{AreJoined}
 use Rattle.graph_plan.specs.Parts.{IsPartOf, IsBeforePart, AreParts}
 use Rattle.graph_plan.proofs.lists.ElementLemmas.{contains_at}
 use Rattle.graph_plan.proofs.lists.SameListLemmas.{same_sorted}
-use Rattle.graph_plan.proofs.parts.WalkLemmas.{joined_back}
+use Rattle.graph_plan.proofs.linked_parts.WalkLemmas.{joined_back}
 
 -- the first of ascending numbers is the least
 first_least : (ns : List ℕ) (m n : ℕ) → AllPairs (λ x y. x < y) ns → slice_get ns 0 ≡ Some m → Contains ns n → m ≤ n

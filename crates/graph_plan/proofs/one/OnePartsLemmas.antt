@@ -48,18 +48,18 @@ use Rattle.graph_plan.specs.Parted.{begun, IsBegun, IsPartOfMember, ArePartsOf, 
 use Rattle.graph_plan.specs.Parts.{AreParts, IsPartition}
 use Rattle.graph_plan.specs.working.SoundGraph.{IsSoundGraph}
 use Rattle.graph_plan.specs.Together.{noted, GoesOn, HasManyIn, HasMany, HasSums, Passes, FollowTogether}
-use Rattle.graph_plan.proofs.parts.AheadLemmas.{first_within}
+use Rattle.graph_plan.proofs.linked_parts.AheadLemmas.{first_within}
 use Rattle.graph_plan.proofs.one.OneEpochLemmas.{epoch_one, drain_one, after_one}
-use Rattle.graph_plan.proofs.parts.MovingLemmas.{moves_does, makes_none, does_sums, moves_kinds}
-use Rattle.graph_plan.proofs.parts.PartLinesLemmas.{makes_none_of}
+use Rattle.graph_plan.proofs.linked_parts.MovingLemmas.{moves_does, makes_none, does_sums, moves_kinds}
+use Rattle.graph_plan.proofs.linked_parts.PartLinesLemmas.{makes_none_of}
 use Rattle.graph_plan.proofs.one.OnePartitionLemmas.{parts_one}
 use Rattle.graph_plan.proofs.one.OnePlanLemmas.{plan_one, start_one}
-use Rattle.graph_plan.proofs.parts.RehearsalLemmas.{rehearsal_kinds}
+use Rattle.graph_plan.proofs.linked_parts.RehearsalLemmas.{rehearsal_kinds}
 use Rattle.graph_plan.proofs.one.OneRehearsalLemmas.{does_one, rehearses_sound, rehearses_one, made_one}
 use Rattle.graph_plan.proofs.PlannedLemmas.{lines_are}
 use Rattle.graph_plan.proofs.sound.StartLemmas.{first_sound}
 use Rattle.graph_plan.proofs.sound.StepLemmas.{IsGoodLine, AreGoodLines, good_first, good_rest, step_sound}
-use Rattle.graph_plan.proofs.parts.TogetherLemmas.{steps_from}
+use Rattle.graph_plan.proofs.linked_parts.TogetherLemmas.{steps_from}
 
 -- a line that may pass the limit of links runs nothing
 passed_not_done : (which : Which) → T.Passed which ≡ T.Done → ⊥

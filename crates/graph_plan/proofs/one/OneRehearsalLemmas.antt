@@ -35,8 +35,8 @@ use Rattle.graph_plan.specs.working.Remembering.{CarriesOn}
 use Rattle.graph_plan.specs.working.SoundGraph.{IsSoundGraph}
 use Rattle.graph_plan.proofs.sound.CarriesOnLemmas.{rebuilt_sound}
 use Rattle.graph_plan.proofs.one.OneEpochLemmas.{epoch_one, drain_one}
-use Rattle.graph_plan.proofs.parts.MovingLemmas.{does_steps, rehearses_does}
-use Rattle.graph_plan.proofs.parts.RehearsalLemmas.{rehearsal_kinds}
+use Rattle.graph_plan.proofs.linked_parts.MovingLemmas.{does_steps, rehearses_does}
+use Rattle.graph_plan.proofs.linked_parts.RehearsalLemmas.{rehearsal_kinds}
 use Rattle.graph_plan.proofs.sound.StepLemmas.{IsGoodLine, AreGoodLines, good_first, good_rest, step_sound}
 use Rattle.graph_plan.proofs.one.OneStepLemmas.{IsOneStep, step_one}
 

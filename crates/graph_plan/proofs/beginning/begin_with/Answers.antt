@@ -1,6 +1,6 @@
 -- All start from one graph.
 use Rattle.std.proofs.Common.{refl}
-use Rattle.graph_plan.proofs.parts.PartedLemmas.{begun_is, members_ready}
+use Rattle.graph_plan.proofs.linked_parts.PartedLemmas.{begun_is, members_ready}
 use Rattle.graph_plan.proofs.beginning.begin_with.Goals as goal
 
 pub returns-clause-begun : goal.returns-clause-begun

@@ -3,7 +3,7 @@ use Rattle.std.proofs.Common.{◌∙◌, get_or, sym, subst}
 use Rattle.std.proofs.lemmas.List.{nil_from_length}
 use Rattle.graph_lines.specs.declared.graph.Stepped.{Stepped}
 use Rattle.graph_plan.specs.working.MovingTogether.{GoesBy}
-use Rattle.graph_plan.proofs.parts.MovingTogetherLemmas.{IsGoing, going_begins, going_low, going_ready, going_made, going_within, going_more, going_many, going_ends}
+use Rattle.graph_plan.proofs.linked_parts.MovingTogetherLemmas.{IsGoing, going_begins, going_low, going_ready, going_made, going_within, going_more, going_many, going_ends}
 use Rattle.graph_plan.proofs.moving.go_all.Goals as goal
 
 pub loop-epoch-init : goal.loop-epoch-init

@@ -1,5 +1,5 @@
 -- The parts so far have moved, and the others are as before.
-use Rattle.graph_plan.proofs.parts.MovingTogetherLemmas.{IsGoing}
+use Rattle.graph_plan.proofs.linked_parts.MovingTogetherLemmas.{IsGoing}
 use Rattle.graph_plan.proofs.moving.go_all.Given as goal
 
 abbrev pub invariant-loop-epoch : goal.invariant-loop-epoch

@@ -1,6 +1,6 @@
 -- What was looked at passes the limit that the line passes, or none.
 use Rattle.std.proofs.Common.{◌∙◌, sym}
-use Rattle.graph_plan.proofs.parts.AheadLemmas.{judged_limit, judged_within}
+use Rattle.graph_plan.proofs.linked_parts.AheadLemmas.{judged_limit, judged_within}
 use Rattle.graph_plan.proofs.moving.judge_all.Goals as goal
 
 pub returns-in-Some : goal.returns-in-Some

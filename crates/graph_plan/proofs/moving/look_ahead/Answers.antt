@@ -9,7 +9,7 @@ use Rattle.graph_plan.specs.declared.member.Member.{Member}
 use Rattle.graph_plan.specs.working.Ahead.{IsAhead}
 use Rattle.graph_plan.specs.working.Members.{IsReadyFor}
 use Rattle.graph_plan.specs.Moving.{all_sums, total}
-use Rattle.graph_plan.proofs.parts.AheadLemmas.{total_none, total_more}
+use Rattle.graph_plan.proofs.linked_parts.AheadLemmas.{total_none, total_more}
 use Rattle.graph_plan.proofs.lists.AllZipLemmas.{pairs_long, pairs_push}
 use Rattle.graph_plan.proofs.moving.look_ahead.Goals as goal
 

@@ -1,7 +1,7 @@
 -- The epochs of all parts are those that the line makes, and each part takes its own.
 use Rattle.std.proofs.Common.{subst}
 use Rattle.graph_plan.specs.working.Ahead.{AreJudged}
-use Rattle.graph_plan.proofs.parts.MovingTogetherLemmas.{moves_or_passes}
+use Rattle.graph_plan.proofs.linked_parts.MovingTogetherLemmas.{moves_or_passes}
 use Rattle.graph_plan.proofs.moving.move_all.Goals as goal
 
 pub returns-in-Ok : goal.returns-in-Ok

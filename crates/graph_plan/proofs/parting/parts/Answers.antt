@@ -1,6 +1,6 @@
 -- Each part has the plan of its own lines, and no link between parts is made or taken away.
-use Rattle.graph_plan.proofs.parts.BetweenLemmas.{parted_between}
-use Rattle.graph_plan.proofs.parts.PartedLemmas.{parted_nodes, parted_each, parted_sound, parted_fit, parted_joined}
+use Rattle.graph_plan.proofs.linked_parts.BetweenLemmas.{parted_between}
+use Rattle.graph_plan.proofs.linked_parts.PartedLemmas.{parted_nodes, parted_each, parted_sound, parted_fit, parted_joined}
 use Rattle.graph_plan.proofs.parting.parts.Goals as goal
 
 pub returns-clause-nodes : goal.returns-clause-nodes

@@ -4,7 +4,7 @@ use Rattle.std.specs.Prelude.{All}
 use Rattle.std.proofs.lemmas.List.{take_all}
 use Rattle.std.proofs.lemmas.List.Elements.{All-more}
 use Rattle.graph_plan.specs.Parts.{is_among}
-use Rattle.graph_plan.proofs.parts.PartitionLemmas.{among_has}
+use Rattle.graph_plan.proofs.linked_parts.PartitionLemmas.{among_has}
 use Rattle.graph_plan.proofs.partition.is_placed.Goals as goal
 
 pub returns-then-is_among-clause-yes : goal.returns-then-is_among-clause-yes

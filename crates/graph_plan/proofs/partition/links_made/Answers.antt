@@ -5,7 +5,7 @@ use Rattle.std.proofs.lemmas.List.Elements.{All-nil}
 use Rattle.graph_lines.specs.declared.wire.Wire.{Wire}
 use Rattle.graph_lines.specs.Searching.{IsWithin}
 use Rattle.graph_plan.proofs.FollowingLemmas.{may_step}
-use Rattle.graph_plan.proofs.parts.RehearsalLemmas.{rehearsal_kinds, made_begins, made_more, made_ends, within_more}
+use Rattle.graph_plan.proofs.linked_parts.RehearsalLemmas.{rehearsal_kinds, made_begins, made_more, made_ends, within_more}
 use Rattle.graph_plan.proofs.partition.links_made.Goals as goal
 
 pub rehearse-requires-clause-line : goal.rehearse-requires-clause-line

@@ -2,7 +2,7 @@ use Rattle.std.proofs.Common.{◌≡◌}
 use Rattle.std.specs.Prelude.{All}
 use Rattle.graph_lines.specs.Ready.{IsReady}
 use Rattle.graph_lines.specs.Searching.{IsWithin}
-use Rattle.graph_plan.proofs.parts.RehearsalLemmas.{HasMadeSoFar}
+use Rattle.graph_plan.proofs.linked_parts.RehearsalLemmas.{HasMadeSoFar}
 use Rattle.graph_plan.proofs.partition.links_made.Given as goal
 
 -- whatever links the lines that are left make, all lines make them after those so far

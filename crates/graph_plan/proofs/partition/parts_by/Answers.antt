@@ -2,7 +2,7 @@
 use Rattle.std.proofs.Common.{◌≡◌, ◌+◌, ℕ, false, List, sym, ◌∙◌, subst}
 use Rattle.std.specs.Prelude.{All, Contains}
 use Rattle.graph_plan.specs.Parts.{is_among}
-use Rattle.graph_plan.proofs.parts.PartitionLemmas.{ArePartsBelow, parts_begin, part_there, part_new, parts_end}
+use Rattle.graph_plan.proofs.linked_parts.PartitionLemmas.{ArePartsBelow, parts_begin, part_there, part_new, parts_end}
 use Rattle.graph_plan.proofs.partition.parts_by.Goals as goal
 use Rattle.graph_plan.proofs.partition.parts_by.Goals.{then-not-is_placed+in_ok-nodes+in_ok-push, else-not-is_placed}
 

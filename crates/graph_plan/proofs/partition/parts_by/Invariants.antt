@@ -1,5 +1,5 @@
 -- The parts of the nodes so far.
-use Rattle.graph_plan.proofs.parts.PartitionLemmas.{ArePartsBelow}
+use Rattle.graph_plan.proofs.linked_parts.PartitionLemmas.{ArePartsBelow}
 use Rattle.graph_plan.proofs.partition.parts_by.Given as goal
 
 abbrev pub invariant-loop-node : goal.invariant-loop-node

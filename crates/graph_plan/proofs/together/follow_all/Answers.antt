@@ -4,7 +4,7 @@ use Rattle.pw_graph.specs.declared.kind.Kind.{Kind}
 use Rattle.graph_lines.specs.declared.graph.Stepped.{Stepped}
 use Rattle.graph_plan.specs.Conditions.{AreLinesOf}
 use Rattle.graph_plan.specs.working.MovingTogether.{StepsTogether}
-use Rattle.graph_plan.proofs.parts.TogetherLemmas.{line_here, together_more, together_stop}
+use Rattle.graph_plan.proofs.linked_parts.TogetherLemmas.{line_here, together_more, together_stop}
 use Rattle.graph_plan.proofs.together.follow_all.Goals as goal
 
 pub step-requires-clause-line : goal.step-requires-clause-line

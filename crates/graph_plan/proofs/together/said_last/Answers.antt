@@ -1,6 +1,6 @@
 -- The part that has both nodes, or no part.
 use Rattle.std.proofs.Common.{sym, ◌∙◌}
-use Rattle.graph_plan.proofs.parts.SaidLastLemmas.{said_here, not_here, said_whole}
+use Rattle.graph_plan.proofs.linked_parts.SaidLastLemmas.{said_here, not_here, said_whole}
 use Rattle.graph_plan.proofs.together.said_last.Goals as goal
 
 pub returns-then-has_both : goal.returns-then-has_both

@@ -4,7 +4,7 @@ use Rattle.pw_graph.specs.declared.plan.Epoch.{Epoch}
 use Rattle.graph_lines.specs.Sums.{sums_with, capped_sums}
 use Rattle.graph_plan.specs.working.Ahead.{both_sums}
 use Rattle.graph_plan.specs.Moving.{own_sums}
-use Rattle.graph_plan.proofs.parts.AheadLemmas.{more_with}
+use Rattle.graph_plan.proofs.linked_parts.AheadLemmas.{more_with}
 use Rattle.graph_plan.proofs.member.Member.sums_more.Goals as goal
 
 pub returns-in-Some : goal.returns-in-Some

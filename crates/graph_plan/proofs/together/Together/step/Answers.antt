@@ -2,7 +2,7 @@
 use Rattle.std.proofs.Common.{refl, subst}
 use Rattle.graph_lines.specs.declared.graph.Stepped.{Stepped}
 use Rattle.graph_lines.specs.Rehearsal.{Rehearses}
-use Rattle.graph_plan.proofs.parts.TogetherLemmas.{may_here, ready_parts, ready_after}
+use Rattle.graph_plan.proofs.linked_parts.TogetherLemmas.{may_here, ready_parts, ready_after}
 use Rattle.graph_plan.proofs.together.Together.step.Goals as goal
 
 pub rehearse-requires-clause-line : goal.rehearse-requires-clause-line

@@ -14,7 +14,7 @@ use Rattle.graph_lines.specs.Activity.{AreJoined}
 use Rattle.graph_lines.specs.Searching.{is_in, numbers_in}
 use Rattle.graph_lines.proofs.CountingLemmas.{numbers_ascend, contains_numbers, numbers_contain}
 use Rattle.graph_plan.specs.Parts.{is_among, IsPartOf, IsBeforePart, AreParts}
-use Rattle.graph_plan.proofs.parts.WalkLemmas.{joined_self, joined_on, joined_back}
+use Rattle.graph_plan.proofs.linked_parts.WalkLemmas.{joined_self, joined_on, joined_back}
 
 differ : false ≡ true → ⊥
 differ e = cc

@@ -45,7 +45,7 @@ use Rattle.graph_plan.specs.Parts.{is_among}
 use Rattle.graph_plan.specs.PlanOf.{HasEnd, IsEndOf}
 use Rattle.graph_plan.specs.Planned.{IsPlanned}
 use Rattle.graph_plan.proofs.sound.FormLemmas.{kind_at_is}
-use Rattle.graph_plan.proofs.parts.PartLinesLemmas.{ranges_kept, kinds_kept, names_kept, ports_kept}
+use Rattle.graph_plan.proofs.linked_parts.PartLinesLemmas.{ranges_kept, kinds_kept, names_kept, ports_kept}
 use Rattle.graph_plan.proofs.PlannedLemmas.{lines_are}
 use Rattle.graph_plan.proofs.sound.StartLemmas.{first_sound}
 use Rattle.graph_plan.proofs.sound.StepLemmas.{EndsSound, follows_sound, follows_end, no_stop}

@@ -6,7 +6,7 @@ use Rattle.std.proofs.lemmas.List.Kept.{AllPairs-from_increasing}
 use Rattle.graph_lines.specs.declared.wire.Wire.{Wire}
 use Rattle.graph_plan.specs.Parts.{AreParts}
 use Rattle.graph_plan.proofs.lists.ElementLemmas.{contains_at}
-use Rattle.graph_plan.proofs.parts.WalkLemmas.{joined_on, joined_back}
+use Rattle.graph_plan.proofs.linked_parts.WalkLemmas.{joined_on, joined_back}
 
 -- no node of a part is below its least
 none_below : (ns : List ℕ) (m n : ℕ) → AllPairs (λ x y. x < y) ns → slice_get ns 0 ≡ Some m → Contains ns n → n < m → ⊥

@@ -58,16 +58,16 @@ use Rattle.graph_plan.specs.Parts.{is_among, IsPartOf, AreParts, IsPartition}
 use Rattle.graph_plan.specs.working.SoundGraph.{IsSoundGraph}
 use Rattle.graph_plan.specs.Together.{has_both, last_line, said_last, noted, GoesOn, FollowTogether}
 use Rattle.graph_plan.proofs.lists.ElementLemmas.{behind, origin, stands_for}
-use Rattle.graph_plan.proofs.parts.PartedLemmas.{begun_nodes}
-use Rattle.graph_plan.proofs.parts.PartitionLemmas.{among_has}
-use Rattle.graph_plan.proofs.parts.RehearsalLemmas.{rehearsal_kinds}
+use Rattle.graph_plan.proofs.linked_parts.PartedLemmas.{begun_nodes}
+use Rattle.graph_plan.proofs.linked_parts.PartitionLemmas.{among_has}
+use Rattle.graph_plan.proofs.linked_parts.RehearsalLemmas.{rehearsal_kinds}
 use Rattle.graph_plan.proofs.one.OneRehearsalLemmas.{rehearses_sound, rehearses_one}
 use Rattle.graph_plan.proofs.one.OnePlanLemmas.{start_one}
 use Rattle.graph_plan.proofs.PlannedLemmas.{named_are, lines_are}
 use Rattle.graph_plan.proofs.sound.SoundGraphLemmas.{count_within}
 use Rattle.graph_plan.proofs.sound.StartLemmas.{first_sound}
 use Rattle.graph_plan.proofs.sound.StepLemmas.{IsGoodLine, AreGoodLines, good_first, good_rest}
-use Rattle.graph_plan.proofs.parts.WalkLemmas.{joined_on}
+use Rattle.graph_plan.proofs.linked_parts.WalkLemmas.{joined_on}
 
 -- two nodes are in one part; a line of two such nodes, or one that changes nothing
 abbrev InOne : List (List ℕ) → ℕ → ℕ → Type 0

@@ -31,11 +31,11 @@ use Rattle.graph_plan.specs.Moving.{RunsOn, MovesOn, MovesIf, Moves, total}
 use Rattle.graph_plan.specs.working.MovingTogether.{MoveOrPass, StepsTogether}
 use Rattle.graph_plan.specs.PartLines.{is_line_of, part_lines}
 use Rattle.graph_plan.specs.Together.{noted, GoesOn, Passes, FollowTogether}
-use Rattle.graph_plan.proofs.parts.AheadLemmas.{first_within}
+use Rattle.graph_plan.proofs.linked_parts.AheadLemmas.{first_within}
 use Rattle.graph_plan.proofs.FollowingLemmas.{may, next_line}
-use Rattle.graph_plan.proofs.parts.MovingLemmas.{moves_kinds}
+use Rattle.graph_plan.proofs.linked_parts.MovingLemmas.{moves_kinds}
 use Rattle.graph_plan.proofs.lists.AllZipLemmas.{pairs_over}
-use Rattle.graph_plan.proofs.parts.RehearsalLemmas.{rehearsal_kinds}
+use Rattle.graph_plan.proofs.linked_parts.RehearsalLemmas.{rehearsal_kinds}
 
 -- WHAT A LINE NEEDS
 pub may_here : (g : Graph) (kinds : List Kind) (l : Line) → IsReady g → g.kinds ≡ kinds → AreLinesOf kinds (l ∷ []) → MayStep g l.command

@@ -21,7 +21,7 @@ use Rattle.graph_plan.specs.working.Members.{IsStanding, IsReadyFor}
 use Rattle.graph_plan.specs.Moving.{Moves, MakesOf, own_sums, all_sums, total}
 use Rattle.graph_plan.specs.working.MovingTogether.{MovesBy, GoesBy, MovesPair, AreMoved, GoBy, HaveMoved, MoveOrPass}
 use Rattle.graph_plan.specs.Together.{HasManyIn}
-use Rattle.graph_plan.proofs.parts.AheadLemmas.{first_within}
+use Rattle.graph_plan.proofs.linked_parts.AheadLemmas.{first_within}
 use Rattle.graph_plan.proofs.lists.AllZipLemmas.{pairs_push, next_low, next_pair, none_left, zip_more}
 
 module _ (waves : List WavIn) (l : Line) where

@@ -28,10 +28,10 @@ use Rattle.graph_plan.specs.PartLines.{part_lines, part_script}
 use Rattle.graph_plan.specs.Parted.{begun, AreBegun, IsBegun, IsPartOfMember, IsPartsAnswer, IsParted}
 use Rattle.graph_plan.specs.Parts.{IsPartition}
 use Rattle.graph_plan.specs.Planned.{IsPlanned}
-use Rattle.graph_plan.proofs.parts.PartLinesLemmas.{ranges_kept, kinds_kept, names_kept, ports_kept, start_same}
+use Rattle.graph_plan.proofs.linked_parts.PartLinesLemmas.{ranges_kept, kinds_kept, names_kept, ports_kept, start_same}
 use Rattle.graph_plan.proofs.one.OnePlanLemmas.{start_one}
 use Rattle.graph_plan.proofs.PlannedLemmas.{planned_sound, planned_fit, planned_joined}
-use Rattle.graph_plan.proofs.parts.TogetherLemmas.{IsAlone, each_alone}
+use Rattle.graph_plan.proofs.linked_parts.TogetherLemmas.{IsAlone, each_alone}
 
 -- BEFORE THE FIRST LINE all parts have the same graph
 module _ (lines : List Line) (ports : List Node) (start : Graph) (is : IsStart lines ports start) where
