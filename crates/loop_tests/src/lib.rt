@@ -30,7 +30,5 @@ mod threads;
 mod waits;
 #[cfg(test)]
 mod words;
-#[cfg(test)]
-mod work;
 
 pub use crew::Crew;

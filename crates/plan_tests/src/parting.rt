@@ -1,7 +1,6 @@
 //! The nodes of the parts of a script.
 
-use crate::silence::Silence;
-use crate::texts::parts_text;
+use plan_support::{Silence, parts_text};
 use pw_lists::{Items, Memory};
 use std::alloc::Global;
 use std::process::Abort;

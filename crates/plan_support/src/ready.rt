@@ -1,0 +1,63 @@
+//! A script of a text, ready to be planned.
+ghost use Rattle.std.specs.Prelude.{All, IfOk};
+ghost use Rattle.script_inputs.specs.Inputs.{HasForm};
+ghost use Rattle.plan_support.specs.Ready.{IsReady};
+
+use graph_plan::PlanFault;
+use graph_script::{Script, parse};
+use pw_lists::{Items, Memory, SCRIPT_BYTES_LIMIT};
+use script_inputs::{InputFault, Inputs, inputs_of};
+use std::alloc::Global;
+use wav_files::Wav;
+
+/// Why a text has no plan.
+#[derive(Clone, Copy, Debug, PartialEq, Eq, Drop)]
+pub enum TextFault {
+    /// It is no script, or longer than one may be.
+    NoScript,
+    /// A source has no wave, or an offer no format.
+    Inputs(InputFault),
+    Plan(PlanFault),
+    Memory,
+}
+
+impl From<Memory> for TextFault {
+    fn from(_memory: Memory) -> TextFault {
+        TextFault::Memory
+    }
+}
+
+impl From<InputFault> for TextFault {
+    fn from(fault: InputFault) -> TextFault {
+        TextFault::Inputs(fault)
+    }
+}
+
+impl From<PlanFault> for TextFault {
+    fn from(fault: PlanFault) -> TextFault {
+        TextFault::Plan(fault)
+    }
+}
+
+/// A script, and what a plan asks for beside it.
+#[derive(Drop)]
+pub(crate) struct Ready {
+    pub script: Script,
+    pub inputs: Inputs,
+}
+
+/// The script of a text, whose sources have these waves in their order.
+pub(crate) fn ready_of(alloc: Global, text: &str, waves: Items<Wav>) -> Result<Ready, TextFault>
+    requires { All HasForm waves }
+    ensures { IfOk result (λ ready. IsReady ready.script ready.inputs) }
+{
+    let bytes = text.as_bytes();
+    if (bytes.len() as u64) > SCRIPT_BYTES_LIMIT {
+        return Err(TextFault::NoScript);
+    }
+    let Ok(script) = parse(alloc, bytes) else {
+        return Err(TextFault::NoScript);
+    };
+    let inputs = inputs_of(alloc, &script, waves, [].as_slice())?;
+    Ok(Ready { script, inputs })
+}

@@ -1,0 +1,4 @@
+pub mod NarrowedLemmas
+pub mod SoundInputsLemmas
+pub mod LineLemmas
+pub mod ScriptInputsLemmas
