@@ -1,7 +1,7 @@
 //! A script of a text, ready to be planned.
 ghost use Rattle.std.specs.Prelude.{All, IfOk};
 ghost use Rattle.script_inputs.specs.Inputs.{HasForm};
-ghost use Rattle.plan_support.specs.Ready.{IsReady};
+ghost use Rattle.plan_support.specs.working.Ready.{IsReady};
 
 use graph_plan::PlanFault;
 use graph_script::{Script, parse};

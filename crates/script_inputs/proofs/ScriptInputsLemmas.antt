@@ -1,6 +1,8 @@
 -- Laws of `specs/ScriptInputs.antt`: one line more of all, and a line that is refused.
-use Rattle.std.proofs.Common.{◌≡◌, ℕ, zero, suc, ◌+◌, List, [], ◌∷◌, length, drop, Option, Some, None, refl, sym, ap, ◌∙◌, subst}
-use Rattle.std.specs.Prelude.{slice_get, Result, Ok, Err, IfSome}
+use Rattle.std.proofs.Common.{◌≡◌, ℕ, zero, suc, ◌+◌, ◌≤◌, List, [], ◌∷◌, length, drop, Option, Some, None, Bor, refl, sym, subst, lit≤}
+use Rattle.std.specs.Prelude.{slice_get, option_copied, Result, Ok, Err, IfSome}
+use Rattle.std.specs.Slice.{IsItemAt}
+use Rattle.std.proofs.lemmas.Option.{slice_get_past, slice_get_read}
 use Rattle.std.specs.List.{All}
 use Rattle.std.proofs.lemmas.List.{drop-drop}
 use Rattle.std.proofs.lemmas.List.Elements.{All-head, All-tail, All-drop}
@@ -21,6 +23,11 @@ each_at P [] h i = tt
 each_at P (x ∷ xs) h zero = All-head P x xs h
 each_at P (x ∷ xs) h (suc i) = each_at P xs (All-tail P x xs h) i
 
+-- what a slice gives at a place
+pub item_read : (xs : List Format) (i : ℕ) (r : Option (Bor Format)) → IsItemAt xs i r → option_copied r ≡ slice_get xs i
+item_read xs i None h = sym (slice_get_past xs i h.3)
+item_read xs i (Some x) h = sym (slice_get_read xs (length xs) i x.now refl h.3.0 h.1)
+
 first_left : {X : Type 0} (xs : List X) (n : ℕ) → slice_get (drop n xs) 0 ≡ slice_get xs n
 first_left [] zero = refl
 first_left [] (suc n) = refl
@@ -38,6 +45,10 @@ next_wave line _ waves left wave format inputs r t h = h
 waves_left : (command : Command) (waves left : List Wav) (wave : Option Wav) → TakesWave command waves wave left → left ≡ drop (waves_taken command) waves
 waves_left (C.Source n file) waves left wave t = t.1
 waves_left _ waves left wave t = t.1
+
+pub taken_few : (command : Command) → formats_taken command ≤ 1
+taken_few (C.Offer port file) = lit≤ tt
+taken_few _ = lit≤ tt
 
 pub wave_formed : (P : Wav → Type 0) (command : Command) (waves left : List Wav) (wave : Option Wav) → TakesWave command waves wave left → All P waves
     → IfSome wave P

@@ -82,7 +82,7 @@ fn offer_line(
     requires sound { AreSoundInputs inputs }
     requires port { IsPort inputs.ports port }
     requires format { IfSome (option_copied format) IsSoundFormat }
-    ensures made { UnlessMemory (OffersFormat line port (option_copied format) inputs) result }
+    ensures made { UnlessMemory (OffersFormat line port (option_copied format.entry) inputs) result }
     ensures sound { IfOk result (AreInputsAfter inputs None) }
 {
     match format {
@@ -146,7 +146,7 @@ pub(crate) fn after_line(
     requires form { IfSome wave HasForm }
     requires format { IfSome (option_copied format) IsSoundFormat }
     ensures made { UnlessMemory (MakesLine line.now.line line.now.command wave
-        (option_copied format) inputs) result }
+        (option_copied format.entry) inputs) result }
     ensures sound { IfOk result (AreInputsAfter inputs (kind_by line.now.command)) }
 {
     match &line.command {
