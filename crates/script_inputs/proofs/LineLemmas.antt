@@ -21,8 +21,8 @@ use Rattle.port_model.specs.declared.port_state.Node.{Node}
 use Rattle.port_model.specs.SoundPorts.{IsSoundNode}
 use Rattle.graph_lines.specs.Start.{kinds_of}
 use Rattle.graph_plan.specs.Conditions.{AreLinesOf, AreScriptPorts, IsWaveFor}
-use Rattle.graph_plan.proofs.FormLemmas.{port_count_is}
-use Rattle.graph_plan.proofs.StepLemmas.{IsGoodLine, AreGoodLines, good_first, good_rest}
+use Rattle.graph_plan.proofs.sound.FormLemmas.{port_count_is}
+use Rattle.graph_plan.proofs.sound.StepLemmas.{IsGoodLine, AreGoodLines, good_first, good_rest}
 use Rattle.script_inputs.specs.declared.inputs.Inputs.{Inputs}
 use Rattle.script_inputs.specs.Inputs.{nothing_made}
 use Rattle.script_inputs.specs.working.SoundInputs.{kind_by, MayMake, AreSoundInputs}

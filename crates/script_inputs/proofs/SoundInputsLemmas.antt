@@ -25,8 +25,8 @@ use Rattle.port_model.proofs.NodeLemmas.{at_place, at_port, has_place}
 use Rattle.port_model.proofs.NarrowingLemmas.{nodes_narrowed}
 use Rattle.port_model.proofs.OfferLemmas.{nodes_added}
 use Rattle.graph_plan.specs.Conditions.{IsWaveFor}
-use Rattle.graph_plan.proofs.ListLemmas.{map_changed}
-use Rattle.graph_plan.proofs.MoreNodesLemmas.{waves_plain, waves_source, unused_new, kinds_more, not_source, source_of, wave_for}
+use Rattle.graph_plan.proofs.lists.ElementLemmas.{map_changed}
+use Rattle.graph_plan.proofs.ConditionsLemmas.{waves_plain, waves_source, unused_new, kinds_more, not_source, source_of, wave_for}
 use Rattle.script_inputs.specs.declared.inputs.Inputs.{Inputs}
 use Rattle.script_inputs.specs.Inputs.{HasForm, with_wave, with_plain}
 use Rattle.script_inputs.specs.working.SoundInputs.{AreSoundInputs, AreInputsAfter}

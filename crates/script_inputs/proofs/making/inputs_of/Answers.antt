@@ -3,7 +3,7 @@ use Rattle.std.proofs.Common.{◌≤◌, List, length, sym, subst, arith}
 use Rattle.graph_script.specs.declared.script.Line.{Line}
 use Rattle.graph_lines.specs.Start.{kinds_of}
 use Rattle.graph_plan.specs.Conditions.{AreLinesOf}
-use Rattle.graph_plan.proofs.ScriptLemmas.{lines_are, named_are}
+use Rattle.graph_plan.proofs.PlannedLemmas.{lines_are, named_are}
 use Rattle.script_inputs.proofs.making.inputs_of.Goals as goal
 
 pub make_all-requires-clause-lines : goal.make_all-requires-clause-lines
