@@ -8,8 +8,10 @@ mod disk_files;
 #[cfg(test)]
 mod in_memory;
 mod std_sink;
+mod unread;
 
-pub use command_line::{first_without_text, words_of};
+pub use command_line::{first_without_text, read_words, words_of};
 pub use disk::{Disk, SystemDisk};
 pub use disk_files::DiskFiles;
 pub use std_sink::StdSink;
+pub use unread::Unread;
