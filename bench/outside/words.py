@@ -93,7 +93,15 @@ def no_text(place):
     for of, words in [(MAIN, ["run", "/dev/null"]), (MAIN, ["soak", "7"]), (PODS, ["--help"]),
                       (PICTURES, ["graph", "/dev/null"])]:
         answer = place.ask(*words, of=of, name=b"\xff\xfe")
-        place.same(f"{of} by a name that is no text", (1, b""), (answer.status, answer.out))
+        refused(place, f"{of} by a name that is no text", of, 0, answer)
         answer = place.ask(*words[:-1], b"\xff", of=of)
-        place.same(f"{of} {words[:-1]} and a word that is no text", (1, b""),
-                   (answer.status, answer.out))
+        refused(place, f"{of} {words[:-1]} and a word that is no text", of, len(words), answer)
+
+
+def refused(place, what, of, at, answer):
+    """A program has said nothing but that this word is no text."""
+    place.same(what, (1, b""), (answer.status, answer.out))
+    name = {MAIN: "pipegraph", PICTURES: "pipegraph-pictures"}.get(of)
+    if name:
+        said = f"{name}: word {at} is not text in UTF-8\n"
+        place.same(f"what is said of {what}", said.encode(), answer.errors)

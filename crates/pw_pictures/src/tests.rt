@@ -1,13 +1,14 @@
 //! What is printed of words and files.
 
-use crate::exit_of;
+use crate::program::run_read;
 use graph_pictures::{Status, explain, print_picture};
 use graph_script::ScriptWhy;
 use pw_lists::{Items, Memory, Text, Which};
-use pw_outside::{SureFiles, SureSink};
+use pw_outside::{MemSink, SureFiles, SureSink};
 use std::alloc::Global;
 use std::process::Abort;
 use std::test::Fail;
+use system_files::Unread;
 use wav_files::WavFault;
 
 // A text of its own.
@@ -540,6 +541,71 @@ fn each_status_has_its_number(rt: HostRuntime) {
         (Status::Memory, 9),
     ];
     for (status, number) in rows {
-        assert!(rt; exit_of(status) == number, "{number}");
+        assert!(rt; status.number() == number, "{number}");
     }
+}
+
+// What words come to, where `g` holds a script whose first line is wrong: the number, whether all of the
+// sentence is put, and what both outputs are given. The first put of the error output takes these
+// bytes, or all.
+fn comes_to<R: AllocGlobal + Abort>(
+    rt: &R,
+    words: Result<Items<String>, Unread>,
+    fails: Option<u64>,
+    code: u8,
+    out: &str,
+    errors: &str,
+) -> Result<(), Memory> {
+    let alloc = rt.alloc();
+    let mut files = SureFiles::new(alloc)?;
+    files.add_file(alloc, &text(alloc, "g")?, b"gain a 01\n".as_slice())?;
+    let (mut given, mut told) = (SureSink::new(alloc)?, MemSink::new(alloc)?);
+    if let Some(bytes) = fails {
+        told.fail_put(alloc, 1, bytes)?;
+    }
+    let exit = run_read(alloc, words, &mut files, &mut given, &mut told);
+    assert_eq!(rt; exit.code, code);
+    assert_eq!(rt; exit.said.is_ok(), fails.is_none());
+    assert!(rt; given.bytes().as_slice() == out.as_bytes(), "{out}");
+    assert!(rt; told.bytes().as_slice() == errors.as_bytes(), "{errors}");
+    Ok(())
+}
+
+#[test]
+fn a_sentence_goes_to_the_error_output_alone(rt: HostRuntime) -> Result<(), Fail> {
+    let absent = "pipegraph-pictures: cannot read w: there is no such file\n";
+    let alloc = rt.alloc();
+    let wave = words_of(alloc, "wave w")?;
+    comes_to(&rt, Ok(wave), None, 5, "absent 1\n", absent)?;
+    let wave = words_of(alloc, "wave w")?;
+    comes_to(&rt, Ok(wave), Some(9), 5, "absent 1\n", "pipegraph")?;
+    let refused = "pipegraph-pictures: g:1: pipegraph refuses this line too, and says why\n";
+    let graph = words_of(alloc, "graph g")?;
+    comes_to(&rt, Ok(graph), None, 2, "script 1 4\n", refused)?;
+    Ok(())
+}
+
+#[test]
+fn words_that_are_no_text_have_a_sentence(rt: HostRuntime) -> Result<(), Fail> {
+    let rows = [
+        (
+            Unread::NoText { word: 2 },
+            1,
+            "pipegraph-pictures: word 2 is not text in UTF-8\n",
+        ),
+        (
+            Unread::NoText { word: 0 },
+            1,
+            "pipegraph-pictures: word 0 is not text in UTF-8\n",
+        ),
+        (
+            Unread::Memory,
+            9,
+            "pipegraph-pictures: no memory was left\n",
+        ),
+    ];
+    for (unread, code, said) in rows {
+        comes_to(&rt, Err(unread), None, code, "", said)?;
+    }
+    Ok(())
 }
