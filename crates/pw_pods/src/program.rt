@@ -27,7 +27,8 @@ fn tell<E: Sink>(
 ) -> Result<(), FileFail>
     ensures ok { IfOk sentence.now (λ text. IsSaid text (E.faults errors.old)
         (E.faults errors.new) (E.given errors.old) (E.given errors.new) result) }
-    ensures err { OnErr sentence.now ((result ≡ Err f.Memory) × (errors.new ≡ errors.old)) }
+    ensures err { OnErr sentence.now ((result ≡ Err f.Memory)
+        × (E.faults errors.new ≡ E.faults errors.old) × (E.given errors.new ≡ E.given errors.old)) }
 {
     match sentence {
         Ok(text) => errors.put(alloc, text.as_slice()),

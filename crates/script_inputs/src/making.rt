@@ -61,8 +61,8 @@ fn make_all(
 /// no line takes are left out. An `offer` line narrows what its port offers by then, and by its
 /// format alone; the format's id is not looked at.
 ///
-/// Errors: the first line that is refused. Before any line is, there are too few waves or formats
-/// for no line: a host that does not know how many a script names may give what it has.
+/// Errors: the first line that is refused: a `source` line for which no wave is left, an `offer`
+/// line for which no format is left, or whose format does not meet what its port offers by then.
 ///
 /// Cost: waves are moved and not copied; an offer takes time in proportion to the fields of its
 /// format. Memory: the ports, and a list of the waves.
