@@ -39,8 +39,8 @@ fn put_links(alloc: Global, text: &mut String) -> Result<(), Memory> {
     Ok(())
 }
 
-// Appends six lines that say something of the nodes of one number and of the link between two, and make
-// no epoch.
+// Appends six lines that say something of the nodes of one number and of the link between two, and
+// make no epoch.
 fn put_six(alloc: Global, text: &mut String, k: usize) -> Result<(), Memory> {
     let nodes = format!(in alloc; "off g{k}\non g{k}\nbuffers m{k} in 2\n")?;
     text.push_str(nodes.as_str())?;

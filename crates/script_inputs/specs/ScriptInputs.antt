@@ -1,7 +1,6 @@
 -- The inputs of a script: what its lines make, one after the other, of the waves of its `source`
--- lines and the formats of its `offer` lines, each in order.
--- Source: this project's own grammar, docs/FORMATS.md; an offer: SPA POD, "Object";
--- spa/pod/filter.h, spa_pod_filter.
+-- lines and the formats of its `offer` lines, each in order. Source: this project's own grammar,
+-- docs/FORMATS.md; an offer: SPA POD, "Object"; spa/pod/filter.h, spa_pod_filter.
 use Rattle.std.specs.Prelude.{◌≡◌, ℕ, List, [], ◌∷◌, drop, Option, Some, None, slice_get, Result, Ok, Err}
 use Rattle.pw_graph.specs.declared.ids.PortId.{PortId}
 use Rattle.format_filter.specs.declared.format.Format.{Format}

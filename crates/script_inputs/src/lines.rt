@@ -82,7 +82,8 @@ fn offer_line(
     requires sound { AreSoundInputs inputs }
     requires port { IsPort inputs.ports port }
     requires format { IfSome (option_copied format) IsSoundFormat }
-    ensures made { UnlessMemory (OffersFormat line port (option_copied format.entry) inputs) result }
+    ensures made { UnlessMemory
+        (OffersFormat line port (option_copied format.entry) inputs) result }
     ensures sound { IfOk result (AreInputsAfter inputs None) }
 {
     match format {
