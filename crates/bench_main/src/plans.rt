@@ -2,7 +2,7 @@
 
 use crate::scripts::{epochs_of, lines_of};
 use graph_script::parse;
-use plan_support::plan_text;
+use plan_tests::plan_text;
 use pw_graph::{Epoch, Plan};
 use pw_lists::{Memory, SCRIPT_BYTES_LIMIT};
 use std::alloc::Global;

@@ -3,7 +3,6 @@
 use graph_plan::PlanFault;
 use graph_script::ScriptFault;
 use pw_lists::Memory;
-use script_inputs::InputFault;
 
 /// Why a script is not played.
 #[derive(Clone, Copy, Debug, PartialEq, Eq, Drop)]
@@ -12,8 +11,6 @@ pub enum HostFault {
     TooLong,
     /// The text is no script: the first line at fault, and why.
     Script(ScriptFault),
-    /// A line of the script lacks its voice or its format.
-    Inputs(InputFault),
     /// The script passes a limit of a run.
     Plan(PlanFault),
     /// The line of a sink was not taken.
@@ -31,12 +28,6 @@ impl From<Memory> for HostFault {
 impl From<ScriptFault> for HostFault {
     fn from(fault: ScriptFault) -> HostFault {
         HostFault::Script(fault)
-    }
-}
-
-impl From<InputFault> for HostFault {
-    fn from(fault: InputFault) -> HostFault {
-        HostFault::Inputs(fault)
     }
 }
 

@@ -1,7 +1,7 @@
 //! What is active from epoch to epoch.
 
 use crate::showing::{Part, expect_part};
-use plan_support::Silence;
+use crate::silence::Silence;
 use std::test::Fail;
 
 #[test]

@@ -1,7 +1,7 @@
 //! Limits, up to them and one above.
 
 use crate::showing::{Part, expect_limit, expect_part};
-use plan_support::plan_text;
+use crate::texts::plan_text;
 use pw_lists::{Memory, Which};
 use std::test::Fail;
 

@@ -1,6 +1,7 @@
 //! The nodes of the parts of a script.
 
-use plan_support::{Silence, parts_text};
+use crate::silence::Silence;
+use crate::texts::parts_text;
 use pw_lists::{Items, Memory};
 use std::alloc::Global;
 use std::process::Abort;

@@ -1,7 +1,8 @@
 //! The plans of the parts of a script.
 
+use crate::silence::Silence;
+use crate::texts::{TextFault, plans_text};
 use graph_plan::PlanFault;
-use plan_support::{Silence, TextFault, plans_text};
 use pw_graph::{LineOutcome, LinkLine, Part, Parts, Shape};
 use pw_lists::{Memory, Which};
 use std::alloc::Global;

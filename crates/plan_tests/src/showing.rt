@@ -1,7 +1,8 @@
 //! The epochs of a plan as text, and comparisons with what is wanted.
 
+use crate::silence::Silence;
+use crate::texts::{TextFault, plan_text};
 use graph_plan::PlanFault;
-use plan_support::{Silence, TextFault, plan_text};
 use pw_graph::{Epoch, Fresh, Plan, PortForm, ShapeLink, ShapeNode};
 use pw_lists::{Memory, Which};
 use std::alloc::Global;

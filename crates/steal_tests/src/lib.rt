@@ -6,3 +6,5 @@
 mod runs;
 #[cfg(test)]
 mod stealing;
+#[cfg(test)]
+mod work;

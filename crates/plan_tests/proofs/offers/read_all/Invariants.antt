@@ -1,7 +1,0 @@
--- The formats so far are sound.
-use Rattle.std.specs.Prelude.{All}
-use Rattle.format_filter.specs.CommonFormat.{IsSoundFormat}
-use Rattle.plan_tests.proofs.offers.read_all.Given as goal
-
-abbrev pub invariant-loop-bytes : goal.invariant-loop-bytes
-invariant-loop-bytes l = All IsSoundFormat l.formats
