@@ -1,26 +1,16 @@
--- What was said of how the program ends.
-use Rattle.std.proofs.Common.{◌≡◌, ℕ, List, Ok, Err, sym, subst}
-use Rattle.std.specs.Prelude.{Result, IfOk, OnErr}
+-- Laws of `specs/Exit.antt`: what a put of a sentence answered, by how it was made.
+use Rattle.std.proofs.Common.{◌≡◌, ℕ, List, ap, subst, sym}
+use Rattle.std.specs.Prelude.{Result, Ok, Err, IfOk, OnErr}
 use Rattle.pw_outside.specs.declared.files.FileFail.{FileFail}
-use Rattle.pw_outside.specs.declared.files.FileFail.TheVariants as f
+use Rattle.pw_outside.specs.declared.files.FileFail.TheVariants as F
 use Rattle.pw_lists.specs.declared.memory.Memory.{Memory}
-use Rattle.pw_outside.specs.Output.{Given}
-use Rattle.pw_pods.specs.Exit.{IsSaid}
+use Rattle.pw_outside.specs.Output.{Given, IsPut}
 
--- where memory was short, nothing of any text
-short_said : (text : List ℕ) (faults faults_now : ℕ) (given given_now : Given) (said : Result (Unit {0}) FileFail)
-    → said ≡ Err f.Memory → faults_now ≡ faults → given_now ≡ given → IsSaid text faults faults_now given given_now said
-short_said text faults faults_now given given_now said is counted put =
-    subst (λ (s : Result (Unit {0}) FileFail). IsSaid text faults faults_now given given_now s) (sym is)
-    (record { put = put; cause = counted })
-
--- a sentence that was made if there was memory for it
-pub said_by : (sentence : Result (List ℕ) Memory) (text : List ℕ) (faults faults_now : ℕ) (given given_now : Given)
-    (said : Result (Unit {0}) FileFail) → IfOk sentence (λ made. made ≡ text)
-    → IfOk sentence (λ made. IsSaid made faults faults_now given given_now said)
-    → OnErr sentence ((said ≡ Err f.Memory) × (faults_now ≡ faults) × (given_now ≡ given))
-    → IsSaid text faults faults_now given given_now said
-said_by (Ok made) text faults faults_now given given_now said is put short =
-    subst (λ (t : List ℕ). IsSaid t faults faults_now given given_now said) is put
-said_by (Err memory) text faults faults_now given given_now said is put short =
-    short_said text faults faults_now given given_now said short.0 short.1 short.2
+pub put_of : {E : Type 0} (given : E → Given) (made : Result (List ℕ) Memory) (text : List ℕ) (old new : E)
+    (said : Result (Unit {0}) FileFail) → IfOk made (λ sentence. sentence ≡ text)
+    → IfOk made (λ sentence. IsPut sentence (given old) (given new) said)
+    → OnErr made ((said ≡ Err F.Memory) × (new ≡ old)) → IsPut text (given old) (given new) said
+put_of given (Ok sentence) text old new said is_text put none =
+    subst (λ (t : List ℕ). IsPut t (given old) (given new) said) is_text put
+put_of given (Err memory) text old new said is_text put none =
+    subst (λ (s : Result (Unit {0}) FileFail). IsPut text (given old) (given new) s) (sym none.0) (ap given none.1)

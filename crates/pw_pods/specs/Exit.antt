@@ -1,8 +1,10 @@
 -- How the program ends, by its words. Source: this project's own.
-use Rattle.std.specs.Prelude.{◌≡◌, ℕ, List, Result, IsSome}
+use Rattle.std.specs.Prelude.{◌≡◌, ℕ, List, codes, Result, IsSome}
 use Rattle.pw_outside.specs.declared.files.FileFail.{FileFail}
 use Rattle.pw_outside.specs.Causes.{HasCause}
 use Rattle.pw_outside.specs.Output.{Given, IsPut}
+use Rattle.system_files.specs.declared.unread.Unread.{Unread}
+use Rattle.system_files.specs.Unread.{unread_number, unread_message}
 use Rattle.pod_text.specs.declared.status.Status.{Status}
 use Rattle.pod_text.specs.Answers.{IsAnswered}
 use Rattle.pod_text.specs.FaultCauses.{Caused, IsUsage}
@@ -11,8 +13,6 @@ use Rattle.pod_text.specs.Reports.{said_of}
 use Rattle.pod_text.specs.Statuses.{status_number}
 use Rattle.pod_text.specs.Words.{request_of}
 use Rattle.pw_pods.specs.declared.program.Exit.{Exit}
-use Rattle.pw_pods.specs.declared.unread.Unread.{Unread}
-use Rattle.pw_pods.specs.UnreadText.{unread_text, unread_number}
 
 -- a text was put, or why it was not: its count of faults rose, or memory was short
 pub record IsSaid (text : List ℕ) (faults faults_now : ℕ) (given given_now : Given)
@@ -38,4 +38,5 @@ pub record HasRefused (unread : Unread) (before now : Outside) (faults faults_no
     (given given_now : Given) (exit : Exit) : Type 0 where
   pub number : exit.number ≡ unread_number unread
   pub outside : now ≡ before
-  pub said : IsSaid (unread_text unread) faults faults_now given given_now exit.said
+  pub said : IsSaid (unread_message (codes "pipegraph-pods") unread) faults faults_now given
+      given_now exit.said

@@ -2,15 +2,12 @@
 #![tactic(auto)]
 
 mod program;
-mod system;
 #[cfg(test)]
 mod tests;
-mod unread;
 
 use program::run_read;
 use std::process::ExitCode;
-use system::read_words;
-use system_files::{DiskFiles, StdSink};
+use system_files::{DiskFiles, StdSink, read_words};
 
 fn main(rt: HostRuntime) -> ExitCode {
     ExitCode::from(

@@ -1,7 +1,6 @@
 //! What is stored and said of words and lists.
 
 use crate::program::run_read;
-use crate::unread::Unread;
 use control_sequence::Point;
 use pod_text::{DumpWhy, ListWhy, Status, make_pod, read_gains};
 use pw_lists::{Items, Memory, Text};
@@ -9,6 +8,7 @@ use pw_outside::{Files, Loaded, MemFiles, SureFiles, SureSink};
 use std::alloc::Global;
 use std::process::Abort;
 use std::test::Fail;
+use system_files::Unread;
 
 // A text of its own.
 fn text(alloc: Global, text: &str) -> Result<Text, Memory> {

@@ -1,10 +1,13 @@
--- Words that were read, and words that could not be.
 use Rattle.std.proofs.Common.{refl}
+use Rattle.pw_pods.proofs.ExitLemmas.{put_of}
 use Rattle.pw_pods.proofs.program.run_read.Goals as goal
 
 pub returns-in-Err-clause-refused : goal.returns-in-Err-clause-refused
-returns-in-Err-clause-refused g c = record {
-  number = c.refuse.ensures.number;
+returns-in-Err-clause-refused g c = rw c.in-Err.is (record {
+  number = c.number.ensures;
   outside = refl;
-  said = c.refuse.ensures.said;
-}
+  said = record {
+    put = put_of g.E.Sink.given c.message.result _ _ _ _ c.message.ensures c.put_made.ensures.put c.put_made.ensures.none;
+    cause = c.put_made.ensures.cause;
+  };
+})

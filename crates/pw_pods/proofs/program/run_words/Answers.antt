@@ -1,7 +1,4 @@
--- What was made, and its sentence.
-use Rattle.std.specs.Prelude.{map, string_bytes}
-use Rattle.pod_text.specs.Reports.{said_of}
-use Rattle.pw_pods.proofs.ExitLemmas.{said_by}
+use Rattle.pw_pods.proofs.ExitLemmas.{put_of}
 use Rattle.pw_pods.proofs.program.run_words.Goals as goal
 
 pub returns : goal.returns
@@ -14,8 +11,9 @@ returns g c =
       answer = told.answer;
       cause = c.make_pod-report.ensures.cause;
       usage = c.make_pod-report.ensures.usage;
-      said = said_by c.make_pod-report.result.sentence
-          (said_of c.make_pod-report.result.status (map string_bytes c.args.words.now) told.line)
-          (g.E.Sink.faults c.args.errors.now) (g.E.Sink.faults c.tell-said.new.errors) (g.E.Sink.given c.args.errors.now)
-          (g.E.Sink.given c.tell-said.new.errors) c.tell-said.result told.said c.tell-said.ensures.ok c.tell-said.ensures.err;
+      said = record {
+        put = put_of g.E.Sink.given c.make_pod-report.result.sentence _ _ _ _ told.said c.put_made.ensures.put
+            c.put_made.ensures.none;
+        cause = c.put_made.ensures.cause;
+      };
     }
