@@ -101,7 +101,5 @@ def no_text(place):
 def refused(place, what, of, at, answer):
     """A program has said nothing but that this word is no text."""
     place.same(what, (1, b""), (answer.status, answer.out))
-    name = {MAIN: "pipegraph", PICTURES: "pipegraph-pictures"}.get(of)
-    if name:
-        said = f"{name}: word {at} is not text in UTF-8\n"
-        place.same(f"what is said of {what}", said.encode(), answer.errors)
+    said = f"{of}: word {at} is not text in UTF-8\n"
+    place.same(f"what is said of {what}", said.encode(), answer.errors)
