@@ -91,7 +91,7 @@ fn repeated(alloc: Global, first: &[u8], line: &[u8], count: u32) -> Result<Item
     Ok(script)
 }
 
-/// Lines, one that comes n times behind them, and how that ends.
+/// Some lines, one line repeated n times, and the result.
 type Repeated = (&'static [u8], &'static [u8], u32, Status, &'static [u8]);
 
 // Whether such a script ends so.
