@@ -1,0 +1,6 @@
+pub mod AllowedLemmas
+pub mod LoadLemmas
+pub mod CountLemmas
+pub mod ReadLemmas
+pub mod HeadlineLemmas
+pub mod FinishLemmas

@@ -1,0 +1,10 @@
+pub mod Statuses
+pub mod Answer
+pub mod Allowed
+pub mod Words
+pub mod Stores
+pub mod Following
+pub mod FaultCauses
+pub mod Headline
+pub mod Outside
+pub mod working
