@@ -2,7 +2,6 @@ mod GainLemmas
 mod DecibelLemmas
 mod SequenceLemmas
 mod AnswerLemmas
-mod CauseLemmas
 mod ChoiceLemmas
 mod OfferLemmas
 mod DumpLemmas

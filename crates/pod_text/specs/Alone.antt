@@ -1,10 +1,8 @@
 -- A request whose words are all of a command line. Source: this project's own.
 use Rattle.std.specs.Prelude.{ℕ, List, [], ◌∷◌, Result, Ok, Err}
-use Rattle.pod_text.specs.declared.status.Status.{Status}
-use Rattle.pod_text.specs.declared.status.Status.TheVariants as S
 use Rattle.pod_text.specs.declared.words.Request.{Request}
 
 -- a request behind whose words nothing stands from an index on
-abbrev pub alone : ℕ → List (List ℕ) → Request → Result Request Status
+abbrev pub alone : ℕ → List (List ℕ) → Request → Result Request ℕ
 alone index [] request = Ok request
-alone index (more ∷ rest) request = Err (S.Usage index)
+alone index (more ∷ rest) request = Err index

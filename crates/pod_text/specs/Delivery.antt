@@ -1,31 +1,20 @@
--- Where the bytes go: a file of this name, or standard output. Source: this project's own.
-use Rattle.std.specs.Prelude.{◌≡◌, ℕ, List, take, option_map, IsTrue, not}
-use Rattle.pw_outside.specs.Files.{Held, stored}
-use Rattle.pw_outside.specs.Output.{Given, Gave, GavePart}
-use Rattle.pod_text.specs.declared.status.Status.{Status}
-use Rattle.pod_text.specs.declared.status.Status.TheVariants as S
-use Rattle.pod_text.specs.Words.{is_dash}
+-- Where bytes go: to standard output, or to a file of this name. Source: this project's own.
+use Rattle.std.specs.Prelude.{ℕ, List, [], ◌∷◌, if◌then◌else◌}
+use Rattle.command_frame.specs.declared.work.Content.TheVariants.{Bytes}
+use Rattle.command_frame.specs.declared.work.Work.{Work}
+use Rattle.pod_text.specs.FileWords.{is_dash}
 
--- all bytes stand under the name, or a part of them after a failure, which is that of a word
-abbrev pub Stores : List ℕ → List ℕ → ℕ → Held → Held → Status → Type 0
-Stores name bytes at old new S.Ok = new ≡ option_map (stored name bytes) old
-Stores name bytes at old new (S.WriteFault place) = (place ≡ at)
-    × ((kept : ℕ) × (new ≡ option_map (stored name (take kept bytes)) old))
-Stores name bytes at old new S.Memory = new ≡ old
-Stores name bytes at old new status = ⊥
+-- the bytes are put, and nothing is stored
+abbrev pub put_work : List ℕ → Work
+put_work bytes = record { stores = []; text = bytes }
 
--- all bytes were given, or a part of them
-abbrev pub Puts : List ℕ → ℕ → Given → Given → Status → Type 0
-Puts bytes at old new S.Ok = Gave bytes old new
-Puts bytes at old new (S.WriteFault place) = (place ≡ at) × GavePart bytes old new
-Puts bytes at old new S.Memory = new ≡ old
-Puts bytes at old new status = ⊥
+-- the bytes are stored under a name, which is the word at this place, and nothing is put
+abbrev pub store_work : List ℕ → ℕ → List ℕ → Work
+store_work name at bytes = record {
+  stores = record { place = at; name = name; content = Bytes bytes } ∷ [];
+  text = [];
+}
 
--- DELIVERED: where the word is `-` put, and the files are as before; else stored, and nothing is
--- put; the word stands at this place
-pub data IsDelivered (word bytes : List ℕ) (at : ℕ) (old new : Held) (given now : Given)
-    (status : Status) : Type 0 where
-  put : IsTrue (is_dash word) → Puts bytes at given now status → new ≡ old
-      → IsDelivered word bytes at old new given now status
-  stored_in : IsTrue (not (is_dash word)) → Stores word bytes at old new status → now ≡ given
-      → IsDelivered word bytes at old new given now status
+-- DELIVERED: where the word is `-` put, else stored
+abbrev pub goes_to : List ℕ → ℕ → List ℕ → Work
+goes_to word at bytes = if is_dash word then put_work bytes else store_work word at bytes

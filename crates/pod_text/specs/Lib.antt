@@ -9,10 +9,10 @@ pub mod Making
 pub mod DumpMaking
 pub mod Delivery
 pub mod Showing
+pub mod UsageText
+pub mod OutputWord
 pub mod Sentences
 pub mod Answers
-pub mod Outside
-pub mod FaultCauses
 pub mod Reports
 pub mod ChoiceWords
 pub mod Offers
@@ -20,4 +20,3 @@ pub mod FileWords
 pub mod Alone
 pub mod FormatWords
 pub mod Separators
-pub mod working

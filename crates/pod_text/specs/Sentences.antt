@@ -7,16 +7,9 @@ use Rattle.pod_text.specs.declared.fault.ListWhy.{ListWhy}
 use Rattle.pod_text.specs.declared.fault.ListWhy.TheVariants as w
 use Rattle.pod_text.specs.declared.status.Status.{Status}
 use Rattle.pod_text.specs.declared.status.Status.TheVariants as S
+use Rattle.pod_text.specs.OutputWord.{output_place}
 use Rattle.pod_text.specs.Showing.{shown, shown_line}
-
--- the commands in words
-abbrev pub usage_text : List ℕ
-usage_text = codes "usage: pipegraph-pods gains LIST OUT\n"
-    ++ codes "       pipegraph-pods pod TEXT OUT\n"
-    ++ codes "       pipegraph-pods format OUT rate VALUES channels VALUES [mandatory KEY]\n"
-    ++ codes "       LIST has lines `FRAME GAIN`; TEXT is what `pipegraph dump` prints;\n"
-    ++ codes "       VALUES is A, A|B, MIN..MAX or MIN..MAX/STEP;\n"
-    ++ codes "       `-` is standard input or output\n"
+use Rattle.pod_text.specs.UsageText.{usage_text}
 
 -- what is wrong with a line
 abbrev pub why_text : ListWhy → List ℕ
@@ -64,6 +57,8 @@ fault_text S.TooLong words line =
 fault_text (S.Absent place) words line = at_word words place (codes "there is no such file")
 fault_text (S.ReadFault place) words line = at_word words place (codes "it cannot be read")
 fault_text (S.WriteFault place) words line = at_word words place (codes "it cannot be written")
+fault_text S.PutFault words line =
+    at_word words (output_place words) (codes "it cannot be written")
 fault_text (S.Limit place) words line =
     at_word words place (codes "it is longer than 33554432 bytes")
 fault_text S.Memory words line = codes "no memory was left"

@@ -1,9 +1,7 @@
 -- The grammar of command lines: what words ask for, or the first word at fault, or their number
 -- where more are wanted. Source: this project's own.
-use Rattle.std.specs.Prelude.{◌≡◌, ℕ, ◌||◌, Bool, if◌then◌else◌, List, [], ◌∷◌}
+use Rattle.std.specs.Prelude.{ℕ, ◌||◌, Bool, if◌then◌else◌, List, [], ◌∷◌}
 use Rattle.std.specs.Prelude.{codes, bytes_eq, Option, Some, None, Result, Ok, Err}
-use Rattle.pod_text.specs.declared.status.Status.{Status}
-use Rattle.pod_text.specs.declared.status.Status.TheVariants as S
 use Rattle.pod_text.specs.declared.source.Source.{Source}
 use Rattle.pod_text.specs.declared.source.Source.TheVariants as Src
 use Rattle.pod_text.specs.declared.words.Request.{Request}
@@ -14,15 +12,15 @@ use Rattle.pod_text.specs.FormatWords.{format_behind}
 pub use Rattle.pod_text.specs.FileWords.{is_dash, is_file_word}
 
 -- the words behind `gains` or `pod`: what is read, and where the POD goes
-abbrev pub made_to : Source → List ℕ → List (List ℕ) → Result Request Status
-made_to source from [] = Err (S.Usage 2)
+abbrev pub made_to : Source → List ℕ → List (List ℕ) → Result Request ℕ
+made_to source from [] = Err 2
 made_to source from (to ∷ rest) =
-    if is_file_word to then alone 3 rest (R.Make source from to) else Err (S.Usage 2)
+    if is_file_word to then alone 3 rest (R.Make source from to) else Err 2
 
-abbrev pub made_behind : Source → List (List ℕ) → Result Request Status
-made_behind source [] = Err (S.Usage 1)
+abbrev pub made_behind : Source → List (List ℕ) → Result Request ℕ
+made_behind source [] = Err 1
 made_behind source (from ∷ rest) =
-    if is_file_word from then made_to source from rest else Err (S.Usage 1)
+    if is_file_word from then made_to source from rest else Err 1
 
 -- the commands that read a file
 abbrev pub source_of : List ℕ → Option Source
@@ -34,25 +32,18 @@ abbrev pub is_help : List ℕ → Bool
 is_help name = bytes_eq name (codes "--help") || bytes_eq name (codes "-h")
 
 -- the other commands
-abbrev pub other_of : List ℕ → List (List ℕ) → Result Request Status
+abbrev pub other_of : List ℕ → List (List ℕ) → Result Request ℕ
 other_of name rest = if bytes_eq name (codes "format") then format_behind rest
-    else (if is_help name then Ok R.Help else Err (S.Usage 0))
+    else (if is_help name then Ok R.Help else Err 0)
 
-abbrev pub by_source : Option Source → List ℕ → List (List ℕ) → Result Request Status
+abbrev pub by_source : Option Source → List ℕ → List (List ℕ) → Result Request ℕ
 by_source None name rest = other_of name rest
 by_source (Some source) name rest = made_behind source rest
 
 -- THE MEANING of the words
-abbrev pub request_of : List (List ℕ) → Result Request Status
-request_of [] = Err (S.Usage 0)
+abbrev pub request_of : List (List ℕ) → Result Request ℕ
+request_of [] = Err 0
 request_of (name ∷ rest) = by_source (source_of name) name rest
-
--- the words were read as they should, or memory was short
-abbrev pub IsRead : Result Request Status → Result Request Status → Type 0
-IsRead expected (Ok x) = expected ≡ Ok x
-IsRead expected (Err S.Memory) = Unit {0}
-IsRead expected (Err (S.Usage word)) = expected ≡ Err (S.Usage word)
-IsRead expected (Err _) = ⊥
 
 -- the format of a request, if it has one, is sound
 abbrev pub HasSoundFormat : Request → Type 0

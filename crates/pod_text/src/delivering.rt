@@ -1,63 +1,55 @@
-//! Where the bytes go.
-ghost use Rattle.std.specs.Prelude.{◌≡◌};
-ghost use Rattle.pw_outside.specs.Causes.{Rose};
-ghost use Rattle.pod_text.specs.Delivery.{Stores, Puts, IsDelivered};
-ghost use Rattle.pod_text.specs.FaultCauses.{WriteFailed};
-ghost use Rattle.pod_text.specs.FileWords.{is_dash};
-ghost use Rattle.pod_text.specs.Outside.{outside};
-ghost use Rattle.pod_text.specs.working.Parts.{HasCauses};
+//! Where bytes go.
+ghost use Rattle.std.specs.Prelude.{◌≡◌, IfOk};
+ghost use Rattle.command_frame.specs.working.Ending.{IsDeliverable};
+ghost use Rattle.pod_text.specs.Delivery.{put_work, store_work, goes_to};
+ghost use Rattle.pod_text.specs.Statuses.{statuses};
 
-use crate::status::Status;
 use crate::words::is_dash;
-use pw_lists::Text;
-use pw_outside::{FileFail, Files, Sink};
+use command_frame::{Content, Store, Work};
+use pw_lists::{Items, Memory, Text};
 use std::alloc::Global;
 
-// Stores bytes under a name; a failure is that of the word at this place.
-fn store<F: Files>(alloc: Global, files: &mut F, name: &Text, bytes: &[u8], place: u32) -> Status
-    ensures held { Stores name.now bytes.now place (F.held files.old) (F.held files.new) result }
-    ensures cause { HasCauses ⊥ (Rose (F.store_faults files.old) (F.store_faults files.new))
-        result }
-    ensures loads { F.load_faults files.new ≡ F.load_faults files.old }
+/// Bytes that are put on standard output.
+pub(crate) fn put_work(alloc: Global, bytes: Items<u8>) -> Work
+    ensures work { result ≡ put_work bytes }
+    ensures deliverable { IsDeliverable statuses result }
 {
-    match files.store(alloc, name, bytes) {
-        Ok(()) => Status::Ok,
-        Err(FileFail::Failed) => Status::WriteFault { place },
-        Err(FileFail::Memory) => Status::Memory,
+    Work {
+        stores: Items::new(alloc),
+        text: bytes,
     }
 }
 
-/// Puts bytes on standard output; a failure is that of the word at this place.
-pub(crate) fn put<O: Sink>(alloc: Global, out: &mut O, bytes: &[u8], place: u32) -> Status
-    ensures given { Puts bytes.now place (O.given out.old) (O.given out.new) result }
-    ensures cause { HasCauses ⊥ (Rose (O.faults out.old) (O.faults out.new)) result }
+// Bytes that are stored under a name, which is the word at this place.
+fn store_work(alloc: Global, name: Text, place: u32, bytes: Items<u8>) -> Result<Work, Memory>
+    ensures work { IfOk result (λ work. work ≡ store_work name place bytes) }
+    ensures deliverable { IfOk result (IsDeliverable statuses) }
 {
-    match out.put(alloc, bytes) {
-        Ok(()) => Status::Ok,
-        Err(FileFail::Failed) => Status::WriteFault { place },
-        Err(FileFail::Memory) => Status::Memory,
-    }
+    let mut stores = Items::new(alloc);
+    stores.push(Store {
+        place,
+        name,
+        content: Content::Bytes(bytes),
+    })?;
+    Ok(Work {
+        stores,
+        text: Items::new(alloc),
+    })
 }
 
-/// Stores bytes in the file that the word at this place names, or puts them where it is `-`.
-pub(crate) fn deliver<F: Files, O: Sink>(
+/// Bytes that are stored in the file that the word at this place names, or put where it is `-`.
+pub(crate) fn goes_to(
     alloc: Global,
-    files: &mut F,
-    out: &mut O,
-    word: &Text,
-    bytes: &[u8],
+    word: Text,
     place: u32,
-) -> Status
-    ensures done { IsDelivered word.now bytes.now place (F.held files.old) (F.held files.new)
-        (O.given out.old) (O.given out.new) result }
-    ensures cause { HasCauses ⊥ (WriteFailed (is_dash word.now)
-        (outside F.Files O.Sink files.old out.old) (outside F.Files O.Sink files.new out.new))
-        result }
-    ensures loads { F.load_faults files.new ≡ F.load_faults files.old }
+    bytes: Items<u8>,
+) -> Result<Work, Memory>
+    ensures work { IfOk result (λ work. work ≡ goes_to word place bytes) }
+    ensures deliverable { IfOk result (IsDeliverable statuses) }
 {
     if is_dash(word.as_slice()) {
-        put(alloc, out, bytes, place)
+        Ok(put_work(alloc, bytes))
     } else {
-        store(alloc, files, word, bytes, place)
+        store_work(alloc, word, place, bytes)
     }
 }

@@ -2,15 +2,16 @@
 ghost use Rattle.std.specs.Prelude.{◌≡◌, map, string_bytes, Ok, IfOk};
 ghost use Rattle.format_filter.specs.Soundness.{IsSound};
 ghost use Rattle.pod_text.specs.Offers.{offer_of};
-ghost use Rattle.pod_text.specs.Words.{IsRead, HasSoundFormat};
+ghost use Rattle.pod_text.specs.Words.{HasSoundFormat};
+ghost use Rattle.command_frame.specs.Words.{IsAsked};
 ghost use Rattle.pod_text.specs.FormatWords as said;
 ghost use Rattle.pod_text.specs.Alone as words;
 ghost use Rattle.pod_text.specs.declared.words.Request.TheVariants as R;
 
 use crate::choices::choice_said;
 use crate::offers::offer_of;
-use crate::status::Status;
 use crate::words::{Request, is_file_word};
+use command_frame::Misread;
 use format_filter::Choice;
 use pw_lists::Items;
 use std::alloc::Global;
@@ -34,17 +35,17 @@ fn format_request(
     channels: Choice,
     rate_flags: u32,
     channels_flags: u32,
-) -> Result<Request, Status>
+) -> Result<Request, Misread>
     requires { IsSound rate × IsSound channels }
-    ensures read { IsRead (Ok (R.Format (string_bytes to.now)
+    ensures read { IsAsked (Ok (R.Format (string_bytes to.now)
         (offer_of rate channels rate_flags channels_flags))) result }
     ensures sound { IfOk result HasSoundFormat }
 {
     match offer_of(alloc, rate, channels, rate_flags, channels_flags) {
-        Err(_memory) => Err(Status::Memory),
+        Err(_memory) => Err(Misread::Memory),
         Ok(format) => match Items::from_slice(alloc, to.as_bytes()) {
             Ok(to) => Ok(Request::Format { to, format }),
-            Err(_memory) => Err(Status::Memory),
+            Err(_memory) => Err(Misread::Memory),
         },
     }
 }
@@ -57,14 +58,14 @@ fn alone(
     channels: Choice,
     key: Key,
     rest: &[String],
-) -> Result<Request, Status>
+) -> Result<Request, Misread>
     requires { IsSound rate × IsSound channels }
-    ensures read { IsRead (words.alone 8 (map string_bytes rest.now)
+    ensures read { IsAsked (words.alone 8 (map string_bytes rest.now)
         (said.offered (string_bytes to.now) rate channels key)) result }
     ensures sound { IfOk result HasSoundFormat }
 {
     if !rest.is_empty() {
-        return Err(Status::Usage { word: 8 });
+        return Err(Misread::Word(8));
     }
     match key {
         Key::None => format_request(alloc, to, rate, channels, 0, 0),
@@ -94,16 +95,16 @@ fn read_key(
     rate: Choice,
     channels: Choice,
     rest: &[String],
-) -> Result<Request, Status>
+) -> Result<Request, Misread>
     requires { IsSound rate × IsSound channels }
-    ensures read { IsRead (said.key_behind (string_bytes to.now) rate channels
+    ensures read { IsAsked (said.key_behind (string_bytes to.now) rate channels
         (map string_bytes rest.now)) result }
     ensures sound { IfOk result HasSoundFormat }
 {
     match rest {
-        [] => Err(Status::Usage { word: 7 }),
+        [] => Err(Misread::Word(7)),
         [word, more @ ..] => match key_of(word) {
-            None => Err(Status::Usage { word: 7 }),
+            None => Err(Misread::Word(7)),
             Some(key) => alone(alloc, to, rate, channels, key, more),
         },
     }
@@ -116,9 +117,9 @@ fn read_mandatory(
     rate: Choice,
     channels: Choice,
     rest: &[String],
-) -> Result<Request, Status>
+) -> Result<Request, Misread>
     requires { IsSound rate × IsSound channels }
-    ensures read { IsRead (said.mandatory_behind (string_bytes to.now) rate channels
+    ensures read { IsAsked (said.mandatory_behind (string_bytes to.now) rate channels
         (map string_bytes rest.now)) result }
     ensures sound { IfOk result HasSoundFormat }
 {
@@ -128,7 +129,7 @@ fn read_mandatory(
             if name.as_bytes() == b"mandatory".as_slice() {
                 read_key(alloc, to, rate, channels, more)
             } else {
-                Err(Status::Usage { word: 6 })
+                Err(Misread::Word(6))
             }
         }
     }
@@ -140,87 +141,92 @@ fn read_channels(
     to: &String,
     rate: Choice,
     rest: &[String],
-) -> Result<Request, Status>
+) -> Result<Request, Misread>
     requires { IsSound rate }
-    ensures read { IsRead (said.channels_behind (string_bytes to.now) rate
+    ensures read { IsAsked (said.channels_behind (string_bytes to.now) rate
         (map string_bytes rest.now)) result }
     ensures sound { IfOk result HasSoundFormat }
 {
     match rest {
-        [] => Err(Status::Usage { word: 5 }),
+        [] => Err(Misread::Word(5)),
         [word, more @ ..] => match choice_said(alloc, word.as_bytes()) {
-            Err(_memory) => Err(Status::Memory),
-            Ok(None) => Err(Status::Usage { word: 5 }),
+            Err(_memory) => Err(Misread::Memory),
+            Ok(None) => Err(Misread::Word(5)),
             Ok(Some(channels)) => read_mandatory(alloc, to, rate, channels, more),
         },
     }
 }
 
 // The words behind the rate.
-fn read_second(alloc: Global, to: &String, rate: Choice, rest: &[String]) -> Result<Request, Status>
+fn read_second(
+    alloc: Global,
+    to: &String,
+    rate: Choice,
+    rest: &[String],
+) -> Result<Request, Misread>
     requires { IsSound rate }
-    ensures read { IsRead (said.second_behind (string_bytes to.now) rate
+    ensures read { IsAsked (said.second_behind (string_bytes to.now) rate
         (map string_bytes rest.now)) result }
     ensures sound { IfOk result HasSoundFormat }
 {
     match rest {
-        [] => Err(Status::Usage { word: 4 }),
+        [] => Err(Misread::Word(4)),
         [name, more @ ..] => {
             if name.as_bytes() == b"channels".as_slice() {
                 read_channels(alloc, to, rate, more)
             } else {
-                Err(Status::Usage { word: 4 })
+                Err(Misread::Word(4))
             }
         }
     }
 }
 
 // The word behind `rate`.
-fn read_rate(alloc: Global, to: &String, rest: &[String]) -> Result<Request, Status>
-    ensures read { IsRead (said.rate_behind (string_bytes to.now) (map string_bytes rest.now))
+fn read_rate(alloc: Global, to: &String, rest: &[String]) -> Result<Request, Misread>
+    ensures read { IsAsked (said.rate_behind (string_bytes to.now) (map string_bytes rest.now))
         result }
     ensures sound { IfOk result HasSoundFormat }
 {
     match rest {
-        [] => Err(Status::Usage { word: 3 }),
+        [] => Err(Misread::Word(3)),
         [word, more @ ..] => match choice_said(alloc, word.as_bytes()) {
-            Err(_memory) => Err(Status::Memory),
-            Ok(None) => Err(Status::Usage { word: 3 }),
+            Err(_memory) => Err(Misread::Memory),
+            Ok(None) => Err(Misread::Word(3)),
             Ok(Some(rate)) => read_second(alloc, to, rate, more),
         },
     }
 }
 
 // The words behind the file.
-fn read_first(alloc: Global, to: &String, rest: &[String]) -> Result<Request, Status>
-    ensures read { IsRead (said.first_behind (string_bytes to.now) (map string_bytes rest.now))
+fn read_first(alloc: Global, to: &String, rest: &[String]) -> Result<Request, Misread>
+    ensures read { IsAsked (said.first_behind (string_bytes to.now) (map string_bytes rest.now))
         result }
     ensures sound { IfOk result HasSoundFormat }
 {
     match rest {
-        [] => Err(Status::Usage { word: 2 }),
+        [] => Err(Misread::Word(2)),
         [name, more @ ..] => {
             if name.as_bytes() == b"rate".as_slice() {
                 read_rate(alloc, to, more)
             } else {
-                Err(Status::Usage { word: 2 })
+                Err(Misread::Word(2))
             }
         }
     }
 }
 
 /// The words behind `format`.
-pub(crate) fn read_format_words(alloc: Global, rest: &[String]) -> Result<Request, Status>
-    ensures read { IsRead (said.format_behind (map string_bytes rest.now)) result }
+pub(crate) fn read_format_words(alloc: Global, rest: &[String]) -> Result<Request, Misread>
+    ensures read { IsAsked (said.format_behind (map string_bytes rest.now)) result }
     ensures sound { IfOk result HasSoundFormat }
 {
     match rest {
-        [] => Err(Status::Usage { word: 1 }),
+        [] => Err(Misread::Word(1)),
         [to, more @ ..] => {
             if is_file_word(to) {
                 read_first(alloc, to, more)
             } else {
-                Err(Status::Usage { word: 1 })
+                Err(Misread::Word(1))
             }
         }
     }

@@ -15,6 +15,7 @@ mod loading;
 mod making;
 mod numbers;
 mod offers;
+mod requests;
 mod sentences;
 mod sequences;
 mod showing;

@@ -1,11 +1,13 @@
 //! The sentence of a status, for people.
 ghost use Rattle.std.specs.Prelude.{◌≡◌, ◌++◌, map, string_bytes, codes, OnOk, IfOk};
-ghost use Rattle.pod_text.specs.Sentences.{usage_text, why_text, dump_why_text, word, at_word, usage_fault};
+ghost use Rattle.pod_text.specs.UsageText.{usage_text};
+ghost use Rattle.pod_text.specs.Sentences.{why_text, dump_why_text, word, at_word, usage_fault};
 ghost use Rattle.pod_text.specs.Sentences.{line_fault, fault_text, after, sentence_of};
 
 use crate::fault::ListWhy;
 use crate::showing::{put_line, put_shown};
 use crate::status::Status;
+use crate::words::output_place;
 use dump_reading::DumpWhy;
 use pw_lists::{Items, Memory, Text, append_decimal};
 use std::alloc::Global;
@@ -124,6 +126,7 @@ fn put_fault(text: &mut Text, status: &Status, words: &[String], line: &[u8]) ->
         Status::Absent { place } => put_at(text, words, place, b"there is no such file"),
         Status::ReadFault { place } => put_at(text, words, place, b"it cannot be read"),
         Status::WriteFault { place } => put_at(text, words, place, b"it cannot be written"),
+        Status::PutFault => put_at(text, words, output_place(words), b"it cannot be written"),
         Status::Limit { place } => put_at(text, words, place, b"it is longer than 33554432 bytes"),
         Status::Memory => text.extend(b"no memory was left"),
     }

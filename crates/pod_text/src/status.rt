@@ -3,7 +3,10 @@ ghost use Rattle.std.specs.Prelude.{◌≡◌};
 ghost use Rattle.pod_text.specs.Statuses.{status_number};
 
 use crate::fault::ListWhy;
+use command_frame::Ending;
 use dump_reading::DumpWhy;
+use pw_outside::{FileFail, Sink};
+use std::alloc::Global;
 
 /// How a call ended. A place is a word of the command line, counted from 0.
 #[derive(Clone, Copy, Debug, PartialEq, Eq, Drop)]
@@ -23,8 +26,10 @@ pub enum Status {
     Absent { place: u32 },
     /// A load that failed.
     ReadFault { place: u32 },
-    /// A store, or a put on standard output, that failed.
+    /// A store that failed.
     WriteFault { place: u32 },
+    /// A put on standard output that failed.
+    PutFault,
     /// A file that is longer than its limit.
     Limit { place: u32 },
     /// No memory was left.
@@ -43,9 +48,47 @@ impl Status {
             Status::TooLong => 4,
             Status::Absent { .. } => 5,
             Status::ReadFault { .. } => 6,
-            Status::WriteFault { .. } => 7,
+            Status::WriteFault { .. } | Status::PutFault => 7,
             Status::Limit { .. } => 8,
             Status::Memory => 9,
         }
+    }
+}
+
+impl Ending for Status {
+    ghost use Rattle.pod_text.specs.Statuses.{statuses};
+
+    ghost statuses = { statuses };
+
+    fn done() -> Status {
+        Status::Ok
+    }
+
+    fn usage(word: u32) -> Status {
+        Status::Usage { word }
+    }
+
+    fn absent(place: u32) -> Status {
+        Status::Absent { place }
+    }
+
+    fn read_fault(place: u32) -> Status {
+        Status::ReadFault { place }
+    }
+
+    fn store_fault(place: u32) -> Status {
+        Status::WriteFault { place }
+    }
+
+    fn put_fault() -> Status {
+        Status::PutFault
+    }
+
+    fn memory() -> Status {
+        Status::Memory
+    }
+
+    fn put_line<O: Sink>(self, _alloc: Global, _out: &mut O) -> Result<(), FileFail> {
+        Ok(())
     }
 }

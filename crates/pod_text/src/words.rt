@@ -1,12 +1,14 @@
 //! The words of a command line.
 ghost use Rattle.std.specs.Prelude.{◌≡◌, map, string_bytes, Ok, IfOk};
 ghost use Rattle.pod_text.specs.Words.{is_dash, is_file_word, made_to, made_behind, source_of, other_of, request_of};
-ghost use Rattle.pod_text.specs.Words.{IsRead, HasSoundFormat};
+ghost use Rattle.pod_text.specs.Words.{HasSoundFormat};
+ghost use Rattle.pod_text.specs.OutputWord.{output_place};
+ghost use Rattle.command_frame.specs.Words.{IsAsked};
 ghost use Rattle.pod_text.specs.declared.words.Request.TheVariants as R;
 
 use crate::format_words::read_format_words;
 use crate::source::Source;
-use crate::status::Status;
+use command_frame::Misread;
 use format_filter::Format;
 use pw_lists::{Items, Text};
 use std::alloc::Global;
@@ -53,16 +55,16 @@ fn make_request(
     source: Source,
     from: &String,
     to: &String,
-) -> Result<Request, Status>
-    ensures read { IsRead
+) -> Result<Request, Misread>
+    ensures read { IsAsked
         (Ok (R.Make source (string_bytes from.now) (string_bytes to.now))) result }
     ensures sound { IfOk result HasSoundFormat }
 {
     match Items::from_slice(alloc, from.as_bytes()) {
-        Err(_memory) => Err(Status::Memory),
+        Err(_memory) => Err(Misread::Memory),
         Ok(from) => match Items::from_slice(alloc, to.as_bytes()) {
             Ok(to) => Ok(Request::Make { source, from, to }),
-            Err(_memory) => Err(Status::Memory),
+            Err(_memory) => Err(Misread::Memory),
         },
     }
 }
@@ -73,37 +75,37 @@ fn read_out(
     source: Source,
     from: &String,
     rest: &[String],
-) -> Result<Request, Status>
-    ensures read { IsRead (made_to source (string_bytes from.now) (map string_bytes rest.now))
+) -> Result<Request, Misread>
+    ensures read { IsAsked (made_to source (string_bytes from.now) (map string_bytes rest.now))
         result }
     ensures sound { IfOk result HasSoundFormat }
 {
     match rest {
-        [] => Err(Status::Usage { word: 2 }),
+        [] => Err(Misread::Word(2)),
         [to, more @ ..] => {
             if !is_file_word(to) {
-                Err(Status::Usage { word: 2 })
+                Err(Misread::Word(2))
             } else if more.is_empty() {
                 make_request(alloc, source, from, to)
             } else {
-                Err(Status::Usage { word: 3 })
+                Err(Misread::Word(3))
             }
         }
     }
 }
 
 // The words behind `gains` or `pod`.
-fn read_made_words(alloc: Global, source: Source, rest: &[String]) -> Result<Request, Status>
-    ensures read { IsRead (made_behind source (map string_bytes rest.now)) result }
+fn read_made_words(alloc: Global, source: Source, rest: &[String]) -> Result<Request, Misread>
+    ensures read { IsAsked (made_behind source (map string_bytes rest.now)) result }
     ensures sound { IfOk result HasSoundFormat }
 {
     match rest {
-        [] => Err(Status::Usage { word: 1 }),
+        [] => Err(Misread::Word(1)),
         [from, more @ ..] => {
             if is_file_word(from) {
                 read_out(alloc, source, from, more)
             } else {
-                Err(Status::Usage { word: 1 })
+                Err(Misread::Word(1))
             }
         }
     }
@@ -123,8 +125,8 @@ fn source_of(name: &[u8]) -> Option<Source>
 }
 
 // What the words ask for, where the first is no command that reads a file.
-fn read_others(alloc: Global, name: &[u8], rest: &[String]) -> Result<Request, Status>
-    ensures read { IsRead (other_of name.now (map string_bytes rest.now)) result }
+fn read_others(alloc: Global, name: &[u8], rest: &[String]) -> Result<Request, Misread>
+    ensures read { IsAsked (other_of name.now (map string_bytes rest.now)) result }
     ensures sound { IfOk result HasSoundFormat }
 {
     if name == b"format".as_slice() {
@@ -132,17 +134,30 @@ fn read_others(alloc: Global, name: &[u8], rest: &[String]) -> Result<Request, S
     } else if name == b"--help".as_slice() || name == b"-h".as_slice() {
         Ok(Request::Help)
     } else {
-        Err(Status::Usage { word: 0 })
+        Err(Misread::Word(0))
+    }
+}
+
+/// The index of the word by which bytes go to standard output.
+pub(crate) fn output_place(words: &[String]) -> u32
+    ensures { result ≡ output_place (map string_bytes words.now) }
+{
+    match words {
+        [] => 0,
+        [name, ..] => match source_of(name.as_bytes()) {
+            Some(_source) => 2,
+            None => u32::from(name.as_bytes() == b"format".as_slice()),
+        },
     }
 }
 
 /// What the words ask for, or the first word at fault.
-pub(crate) fn read_words(alloc: Global, words: &[String]) -> Result<Request, Status>
-    ensures read { IsRead (request_of (map string_bytes words.now)) result }
+pub(crate) fn read_words(alloc: Global, words: &[String]) -> Result<Request, Misread>
+    ensures read { IsAsked (request_of (map string_bytes words.now)) result }
     ensures sound { IfOk result HasSoundFormat }
 {
     match words {
-        [] => Err(Status::Usage { word: 0 }),
+        [] => Err(Misread::Word(0)),
         [name, rest @ ..] => {
             match source_of(name.as_bytes()) {
                 Some(source) => read_made_words(alloc, source, rest),
