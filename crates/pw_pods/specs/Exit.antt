@@ -1,16 +1,17 @@
 -- How the program ends, by its words. Source: this project's own.
-use Rattle.std.specs.Prelude.{◌≡◌, ℕ, List, codes, Result, IsSome}
+use Rattle.std.specs.Prelude.{◌≡◌, ℕ, List, codes, Result}
 use Rattle.pw_outside.specs.declared.files.FileFail.{FileFail}
 use Rattle.pw_outside.specs.Causes.{HasCause}
 use Rattle.pw_outside.specs.Output.{Given, IsPut}
+use Rattle.command_frame.specs.FaultCauses.{Caused, IsUsage}
+use Rattle.command_frame.specs.Headline.{IsTold, IsComplete}
+use Rattle.command_frame.specs.Outside.{Outside}
 use Rattle.system_files.specs.declared.unread.Unread.{Unread}
 use Rattle.system_files.specs.Unread.{unread_number, unread_message}
 use Rattle.pod_text.specs.declared.status.Status.{Status}
 use Rattle.pod_text.specs.Answers.{IsAnswered}
-use Rattle.pod_text.specs.FaultCauses.{Caused, IsUsage}
-use Rattle.pod_text.specs.Outside.{Outside}
 use Rattle.pod_text.specs.Reports.{said_of}
-use Rattle.pod_text.specs.Statuses.{status_number}
+use Rattle.pod_text.specs.Statuses.{status_number, statuses}
 use Rattle.pod_text.specs.Words.{request_of}
 use Rattle.pw_pods.specs.declared.program.Exit.{Exit}
 
@@ -27,10 +28,10 @@ pub record HasEnded (words : List (List ℕ)) (before now : Outside) (faults fau
   pub status : Status
   pub line : List ℕ
   pub number : exit.number ≡ status_number status
-  pub answer : IsSome before.held
-      → IsAnswered words before.held now.held before.given now.given status line
-  pub cause : Caused (request_of words) before now status
-  pub usage : IsUsage (request_of words) status
+  pub told : IsTold statuses (IsAnswered words line) before now status
+  pub cause : Caused statuses before now status
+  pub usage : IsUsage statuses (request_of words) status
+  pub complete : IsComplete statuses (IsAnswered words line) before now status
   pub said : IsSaid (said_of status words line) faults faults_now given given_now exit.said
 
 -- of words that could not be read the sentence is put on the error output, and nothing else is done

@@ -3,7 +3,7 @@ ghost use Rattle.std.specs.Prelude.{◌≡◌, map, string_bytes, codes, Err, If
 ghost use Rattle.pw_outside.specs.declared.files.FileFail.TheVariants as F;
 ghost use Rattle.pw_outside.specs.Causes.{HasCause};
 ghost use Rattle.pw_outside.specs.Output.{IsPut};
-ghost use Rattle.pod_text.specs.Outside.{outside};
+ghost use Rattle.command_frame.specs.Outside.{outside};
 ghost use Rattle.pw_pods.specs.Exit.{HasEnded, HasRefused};
 
 use pod_text::make_pod;

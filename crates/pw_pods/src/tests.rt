@@ -4,7 +4,7 @@ use crate::program::run_read;
 use control_sequence::Point;
 use pod_text::{DumpWhy, ListWhy, Status, make_pod, read_gains};
 use pw_lists::{Items, Memory, Text};
-use pw_outside::{Files, Loaded, MemFiles, SureFiles, SureSink};
+use pw_outside::{Files, Loaded, MemFiles, MemSink, SureFiles, SureSink};
 use std::alloc::Global;
 use std::process::Abort;
 use std::test::Fail;
@@ -455,12 +455,79 @@ fn each_status_has_its_number(rt: HostRuntime) {
         (Status::Absent { place: 1 }, 5),
         (Status::ReadFault { place: 1 }, 6),
         (Status::WriteFault { place: 2 }, 7),
+        (Status::PutFault, 7),
         (Status::Limit { place: 1 }, 8),
         (Status::Memory, 9),
     ];
     for (status, number) in rows {
         assert!(rt; status.number() == number, "{number}");
     }
+}
+
+// The program on words, over files whose first store is to fail after 3 bytes, and an output whose
+// first put is to fail after as many: this status, these bytes in `o`, these on standard output,
+// and this sentence.
+fn fails<R: AllocGlobal + Abort>(
+    rt: &R,
+    line: &str,
+    status: Status,
+    stored: Option<&[u8]>,
+    put: &[u8],
+    said: &str,
+) -> Result<(), Memory> {
+    let alloc = rt.alloc();
+    let words = words_of(alloc, line)?;
+    let mut files = MemFiles::new(alloc)?;
+    files.add_file(alloc, &text(alloc, "s")?, b"2 128\n".as_slice())?;
+    files.fail_store(alloc, 1, 3)?;
+    let mut out = MemSink::new(alloc)?;
+    out.fail_put(alloc, 1, 3)?;
+    let report = make_pod(alloc, words.as_slice(), &mut files, &mut out);
+    assert!(rt; report.status == status, "{line}");
+    assert!(rt; report.sentence?.as_slice() == said.as_bytes(), "{line}");
+    assert!(rt; out.bytes().as_slice() == put, "{line}");
+    match files.load(alloc, &text(alloc, "o")?, 1000) {
+        Ok(Loaded::Whole(bytes)) => match stored {
+            Some(wanted) => assert!(rt; bytes.as_slice() == wanted, "{line}"),
+            None => panic!(rt; "{line}"),
+        },
+        _ => assert!(rt; stored.is_none(), "{line}"),
+    }
+    Ok(())
+}
+
+#[test]
+fn a_failed_store_and_a_failed_put_are_two_statuses(rt: HostRuntime) -> Result<(), Fail> {
+    let half = b"\x38\0\0".as_slice();
+    let rows = [
+        (
+            "gains s o",
+            Status::WriteFault { place: 2 },
+            Some(half),
+            b"".as_slice(),
+            "o",
+        ),
+        ("gains s -", Status::PutFault, None, half, "-"),
+        (
+            "format - rate 8000..96000/4000 channels 2 mandatory channels",
+            Status::PutFault,
+            None,
+            b"\x50\0\0".as_slice(),
+            "-",
+        ),
+        (
+            "--help",
+            Status::PutFault,
+            None,
+            b"usa".as_slice(),
+            "--help",
+        ),
+    ];
+    for (line, status, stored, put, word) in rows {
+        let said = format!(in rt.alloc(); "pipegraph-pods: \"{word}\": it cannot be written\n")?;
+        fails(&rt, line, status, stored, put, &said)?;
+    }
+    Ok(())
 }
 
 // The whole program on words, over files of which the first load is to fail where that is said: it

@@ -8,9 +8,10 @@ returns g c =
       status = c.make_pod-report.result.status;
       line = told.line;
       number = c.number.ensures;
-      answer = told.answer;
+      told = told.told;
       cause = c.make_pod-report.ensures.cause;
       usage = c.make_pod-report.ensures.usage;
+      complete = told.complete;
       said = record {
         put = put_of g.E.Sink.given c.make_pod-report.result.sentence _ _ _ _ told.said c.put_made.ensures.put
             c.put_made.ensures.none;
