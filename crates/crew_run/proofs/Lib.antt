@@ -1,0 +1,2 @@
+mod BegunLemmas
+pub mod DealtLemmas

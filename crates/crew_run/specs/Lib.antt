@@ -1,0 +1,4 @@
+pub mod Dealt
+pub mod Places
+pub mod Starting
+pub mod Tasks
