@@ -1,84 +1,86 @@
 -- After the run all loops are done, and each node of the plan is one of some loop.
-use Rattle.std.proofs.Common.{◌≡◌, ℕ, ◌<◌, List, [], ◌∷◌, ◌++◌, length, get_or, refl, sym, ap, ◌∙◌, subst, arith, ⊎_elim}
+use Rattle.std.proofs.Common.{◌≡◌, ℕ, ◌+◌, ◌<◌, Bool, List, [], ◌∷◌, ◌++◌, length, get_or, refl, sym, ap, ◌∙◌, subst, arith, ⊎_elim}
 use Rattle.std.specs.Prelude.{All, Contains}
-use Rattle.std.proofs.lemmas.List.{ext_get_or, get_or-map, length-map, map-append}
-use Rattle.std.proofs.lemmas.List.Elements.{All-append, All-cons, Contains-append_left, Contains-append_right}
+use Rattle.std.proofs.lemmas.List.{get_or-map, get_or_default, length-map}
+use Rattle.std.proofs.lemmas.List.Elements.{All-append, All-cons, Contains-get_or, Contains-append_left, Contains-append_right}
+use Rattle.crew_run.specs.Dealt.{AreDealt}
+use Rattle.crew_run.proofs.DealtLemmas.{dealt_count, held_all, backs_all, dealt_at}
 use Rattle.board_rule.specs.declared.board.Board.{Board}
 use Rattle.node_progress.specs.declared.score.Score.{Score}
 use Rattle.data_loop.specs.declared.loop_state.LoopState.{LoopState}
 use Rattle.driver_cycle.specs.Settling.{AreEach}
-use Rattle.graph_run.specs.declared.lists.Lists.{Lists}
-use Rattle.graph_run.specs.declared.leading.Driving.{Driving}
+use Rattle.graph_run.specs.declared.crew.LeadEnd.{LeadEnd}
+use Rattle.graph_run.specs.declared.crew.LeadStart.{LeadStart}
 use Rattle.graph_run.specs.declared.shared.LoopWay.{LoopWay}
 use Rattle.graph_run.specs.declared.shared.Shared.{Shared}
 use Rattle.graph_run.specs.LoopsOnPlan.{IsReady, HasCome}
 use Rattle.graph_run.specs.Outcomes.{HasNodeAt, AreDone}
-use Rattle.graph_run.specs.Threads.{CanRun, CanDrive, HasRun, IsDoneWith, HasNode, nodes_with, nodes_under}
-use Rattle.graph_run.specs.working.Lists.{AreListed, HasLoop}
+use Rattle.graph_run.specs.Threads.{CanRun, CanStart, HasRun, IsDoneWith}
+use Rattle.graph_run.specs.working.Crew.{CanLead, HasLedRun, states_of}
 use Rattle.graph_run.proofs.EpochLemmas.{there}
 use Rattle.graph_run.proofs.ThreadLemmas.{done_with}
 
--- the loop of a list of nodes has each of them
-has_node : (done : List LoopState) (ns : List ℕ) (n : ℕ) → Contains (nodes_with done) ns → Contains ns n → (i : ℕ) × HasNodeAt done n i
-has_node done ns n c own = let i = c.0 in let inside = c.1 in let long = length-map done (λ (s : LoopState). s.nodes) in
-    let low : i < length done = omega (arith, inside, long) in
-    (i, (low, λ d. subst (λ (l : List ℕ). Contains l n) (sym (sym (get_or-map (λ (s : LoopState). s.nodes) done i d ns low) ∙ c.2)) own))
+-- a loop of the list has each of its nodes
+has_node : (done : List LoopState) (s : LoopState) (n : ℕ) → Contains done s → Contains s.nodes n → (i : ℕ) × HasNodeAt done n i
+has_node done s n c own = (
+  c.0,
+  (c.1, λ d. subst (λ (x : LoopState). Contains x.nodes n) (sym (get_or_default done c.0 d s c.1 ∙ c.2)) own),
+)
 
--- the adopted loops have the nodes that they had
-same_nodes : (old new : List LoopState) → AreEach HasRun old new → nodes_with new ≡ nodes_with old
-same_nodes old new h = let n = h.count in
-    let a = length-map new (λ (s : LoopState). s.nodes) in let b = length-map old (λ (s : LoopState). s.nodes) in
-    ext_get_or [] (nodes_with new) (nodes_with old) (omega (arith, a, b, n)) (λ i low.
-    let inside : i < length old = omega (arith, low, a, n) in let d : LoopState = (there old i inside).0 in
-    get_or-map (λ (s : LoopState). s.nodes) new i d [] (omega (arith, inside, n))
-    ∙ ((h.each i d inside).same.nodes ∙ sym (get_or-map (λ (s : LoopState). s.nodes) old i d [] inside)))
+-- those that are held may run
+pub states_can : (shared : Shared) (held : List LoopWay) → All (CanStart shared) held → All (CanRun shared) (states_of held)
+states_can shared held can k d low = let a = length-map held (λ (x : LoopWay). x.state) in let inside : k < length held = omega (arith, low, a) in
+    let x : LoopWay = (there held k inside).0 in
+    subst (CanRun shared) (sym (get_or-map (λ (x : LoopWay). x.state) held k x d inside)) (can k x inside).can_run
 
-module _ (shared : Shared) (d : Driving) (l : Lists) (can : CanDrive shared d) (listed : AreListed shared l) (own : LoopState) (adopted : List LoopState)
-    (ran : HasRun d.own own) (each : AreEach HasRun l.adopted.list adopted) where
-  pub all_done : All (IsDoneWith shared) (l.done.list ++ own ∷ adopted)
-  all_done = All-append (IsDoneWith shared) l.done.list (own ∷ adopted) listed.done
-      (All-cons (IsDoneWith shared) own adopted (done_with shared d.own own can.plan_is can.waves_are ran)
-      (λ k x low. let n = each.count in let inside : k < length l.adopted.list = omega (arith, low, n) in
-      let was = listed.adopted k x inside in
-      done_with shared (get_or l.adopted.list k x) (get_or adopted k x) was.plan_is was.waves_are (each.each k x inside)))
+-- ALL LOOPS in the end
+module _ (shared : Shared) (l : LeadStart) (loops held : List LoopWay) (kept : List Bool) (backs : List LoopState) (h : LeadEnd) (m n : ℕ)
+    (can : CanLead shared l loops) (led : HasLedRun shared l held h m n)
+    (dealt : AreDealt (λ (x : LoopWay) (s : LoopState). HasRun x.state s) loops kept held backs) where
+  -- there is room for all of them
+  pub room_for_all : length h.led.adopted + length backs < l.done.spare
+  room_for_all = let n = dealt_count (λ (x : LoopWay) (s : LoopState). HasRun x.state s) loops kept held backs dealt in
+      let a = led.adopted.count in let b = length-map held (λ (x : LoopWay). x.state) in let room = can.done in
+      omega (arith, n, a, b, room)
 
-  -- ALL LOOPS in the end
-  module _ (loops : List LoopWay) (all : All (λ x. HasLoop l x.state.nodes) loops) (done : List LoopState)
-      (nodes : nodes_with done ≡ nodes_with (l.done.list ++ own ∷ adopted) ++ nodes_under l.running.list)
-      (whole : All (IsDoneWith shared) done) where
-    parts : nodes_with (l.done.list ++ own ∷ adopted) ≡ nodes_with l.done.list ++ own.nodes ∷ nodes_with adopted
-    parts = map-append (λ (s : LoopState). s.nodes) l.done.list (own ∷ adopted)
+  all_done : All (IsDoneWith shared) ((h.led.own ∷ h.led.adopted) ++ backs)
+  all_done = All-append (IsDoneWith shared) (h.led.own ∷ h.led.adopted) backs
+      (All-cons (IsDoneWith shared) h.led.own h.led.adopted
+      (done_with shared l.driving.own h.led.own can.can_drive.plan_is can.can_drive.waves_are led.own)
+      (λ k d low. let count = led.adopted.count in let inside : k < length (states_of held) = omega (arith, low, count) in
+      let was = states_can shared held (held_all (λ (x : LoopWay) (s : LoopState). HasRun x.state s) (CanStart shared) loops kept held backs dealt can.can_start) k d inside in
+      done_with shared (get_or (states_of held) k d) (get_or h.led.adopted k d) was.plan_is was.waves_are (led.adopted.each k d inside)))
+      (backs_all (λ (x : LoopWay) (s : LoopState). HasRun x.state s) (CanStart shared) (IsDoneWith shared)
+      (λ x s start ran. done_with shared x.state s start.can_run.plan_is start.can_run.waves_are ran) loops kept held backs dealt can.can_start)
 
-    early : (ns : List ℕ) → Contains (nodes_with l.done.list ++ own.nodes ∷ nodes_with adopted) ns → Contains (nodes_with done) ns
-    early ns c = subst (λ (x : List (List ℕ)). Contains x ns) (sym nodes)
-        (Contains-append_left (nodes_with (l.done.list ++ own ∷ adopted)) (nodes_under l.running.list) ns
-        (subst (λ (x : List (List ℕ)). Contains x ns) (sym parts) c))
+  -- the nodes of a loop that is held are those of an adopted one
+  of_held : (x : LoopWay) (k : ℕ) → Contains held x → Contains x.state.nodes k → (i : ℕ) × HasNodeAt ((h.led.own ∷ h.led.adopted) ++ backs) k i
+  of_held x k c own = let a = length-map held (λ (y : LoopWay). y.state) in let inside = c.1 in
+      let low : c.0 < length (states_of held) = omega (arith, inside, a) in let count = led.adopted.count in
+      let ran = led.adopted.each c.0 x.state low in let t : LoopState = get_or h.led.adopted c.0 x.state in
+      let was : get_or (states_of held) c.0 x.state ≡ x.state = get_or-map (λ (y : LoopWay). y.state) held c.0 x x.state inside ∙ ap (λ (y : LoopWay). y.state) c.2 in
+      has_node ((h.led.own ∷ h.led.adopted) ++ backs) t k
+      (Contains-append_left (h.led.own ∷ h.led.adopted) backs t
+      (Contains-append_right (h.led.own ∷ []) h.led.adopted t (Contains-get_or h.led.adopted c.0 x.state (omega (arith, low, count)))))
+      (subst (λ (ns : List ℕ). Contains ns k) (sym (ran.same.nodes ∙ ap (λ (s : LoopState). s.nodes) was)) own)
 
-    in_list : (ns : List ℕ) → HasLoop l ns → Contains (nodes_with done) ns
-    in_list ns h = ⊎_elim
-        (λ c. subst (λ (x : List (List ℕ)). Contains x ns) (sym nodes)
-        (Contains-append_right (nodes_with (l.done.list ++ own ∷ adopted)) (nodes_under l.running.list) ns c))
-        (λ c. ⊎_elim
-        (λ a. early ns (Contains-append_right (nodes_with l.done.list) (own.nodes ∷ nodes_with adopted) ns
-        (Contains-append_right (own.nodes ∷ []) (nodes_with adopted) ns
-        (subst (λ (x : List (List ℕ)). Contains x ns) (sym (same_nodes l.adopted.list adopted each)) a))))
-        (λ b. early ns (Contains-append_left (nodes_with l.done.list) (own.nodes ∷ nodes_with adopted) ns b))
-        c)
-        h
-
-    pub are_done : ((n : ℕ) → n < length shared.score.plan.value.nodes → HasNode d.own loops n)
-        → AreDone shared.score.plan.value shared.score.waves.value done
-    are_done covers = record {
-      each = whole;
-      nodes = λ n low. ⊎_elim
-          (λ c. has_node done own.nodes n
-          (early own.nodes (Contains-append_right (nodes_with l.done.list) (own.nodes ∷ nodes_with adopted) own.nodes
-          (Contains-append_left (own.nodes ∷ []) (nodes_with adopted) own.nodes (0, omega arith, refl))))
-          (subst (λ (x : List ℕ). Contains x n) (sym ran.same.nodes) c))
-          (λ c. let x : LoopWay = (there loops c.0 c.1).0 in
-          has_node done (get_or loops c.0 x).state.nodes n (in_list (get_or loops c.0 x).state.nodes (all c.0 x c.1)) (c.2 x))
-          (covers n low);
-    }
+  pub are_done : (done : List LoopState) → done ≡ (h.led.own ∷ h.led.adopted) ++ backs
+      → AreDone shared.score.plan.value shared.score.waves.value done
+  are_done done is = subst (AreDone shared.score.plan.value shared.score.waves.value) (sym is) record {
+    each = all_done;
+    nodes = λ k low. ⊎_elim
+        (λ c. has_node ((h.led.own ∷ h.led.adopted) ++ backs) h.led.own k
+        (Contains-append_left (h.led.own ∷ h.led.adopted) backs h.led.own
+        (Contains-append_left (h.led.own ∷ []) h.led.adopted h.led.own (0, omega arith, refl)))
+        (subst (λ (ns : List ℕ). Contains ns k) (sym led.own.same.nodes) c))
+        (λ c. let x : LoopWay = (there loops c.0 c.1).0 in ⊎_elim
+        (λ (a : Contains held (get_or loops c.0 x)). of_held (get_or loops c.0 x) k a (c.2 x))
+        (λ (a : (b : LoopState) × HasRun (get_or loops c.0 x).state b × Contains backs b).
+        has_node ((h.led.own ∷ h.led.adopted) ++ backs) a.0 k (Contains-append_right (h.led.own ∷ h.led.adopted) backs a.0 a.2)
+        (subst (λ (ns : List ℕ). Contains ns k) (sym a.1.same.nodes) (c.2 x)))
+        (dealt_at (λ (y : LoopWay) (s : LoopState). HasRun y.state s) loops kept held backs dealt c.0 x c.1))
+        (can.nodes k low);
+  }
 
 -- a loop that went through all epochs is done
 pub came : (boards : List Board) (s t : LoopState) → IsReady boards s → HasCome (length boards) s t → HasRun s t

@@ -1,5 +1,5 @@
 -- A run of a plan from its parts: boards, drivers' seats before and after it, and the closed boards.
-use Rattle.std.proofs.Common.{◌≡◌, ℕ, suc, cond, Bool, ◌+◌, ◌<◌, List, [], ◌∷◌, length, map, get_or, refl, sym, ap, ◌∙◌, subst, arith, Some, slice_get}
+use Rattle.std.proofs.Common.{◌≡◌, ℕ, suc, cond, Bool, ◌+◌, ◌<◌, ◌≤◌, List, [], ◌∷◌, length, map, get_or, refl, sym, ap, ◌∙◌, subst, arith, Some, slice_get}
 use Rattle.std.specs.List.{AllZip, enumerate_from, range_with_len}
 use Rattle.std.proofs.lemmas.Bool.{ne_eqb}
 use Rattle.std.proofs.lemmas.Simd.{map-map}
@@ -16,15 +16,15 @@ use Rattle.board_rule.specs.declared.board.Board.{Board}
 use Rattle.board_rule.specs.declared.board_shape.BoardShape.{BoardShape}
 use Rattle.board_rule.specs.Known.{Known}
 use Rattle.data_loop.specs.declared.loop_state.LoopState.{LoopState}
-use Rattle.graph_run.specs.declared.lists.Lists.{Lists}
 use Rattle.graph_run.specs.declared.preparing.Prepared.{Prepared}
+use Rattle.pw_lists.specs.Listed.{Listed}
 use Rattle.graph_run.specs.Seating.{epoch_board}
 use Rattle.graph_run.specs.Boards.{driver_of}
 use Rattle.graph_run.specs.Closing.{HasEnded}
 use Rattle.graph_run.specs.Leads.{HaveLed, checks_of}
-use Rattle.graph_run.specs.working.Lists.{AreEmpty, HaveRooms}
+use Rattle.graph_run.specs.working.Crew.{CanLead}
 use Rattle.graph_run.specs.Outcomes.{AreDone}
-use Rattle.graph_run.specs.working.Prepared.{IsPrepared, IsCrew}
+use Rattle.graph_run.specs.working.Prepared.{IsPrepared}
 use Rattle.graph_run.proofs.EpochLemmas.{there}
 use Rattle.graph_run.proofs.ReadyLemmas.{driver_at}
 
@@ -108,14 +108,15 @@ module _ (plan : Plan) (waves : List WavIn) (loops : ℕ) where
 
 -- what the threads begin with, and all loops in the end, from what was prepared
 module _ (plan : Plan) (waves : List WavIn) (loops : ℕ) (p : Prepared) (is : IsPrepared plan waves loops p) where
-  pub crew : (lists : Lists) → AreEmpty lists → HaveRooms (length p.loops) lists
-      → IsCrew p.shared (record { loops = p.loops; driving = p.driving; lists = lists })
-  crew lists empty rooms = record {
+  pub can_lead : (adopted done : Listed LoopState) → adopted.list ≡ [] → done.list ≡ [] → loops ≤ adopted.spare → loops < done.spare
+      → CanLead p.shared (record { driving = p.driving; adopted = adopted; done = done }) p.loops
+  can_lead adopted done none bare room more = let count = is.count in record {
     can_start = is.can_start;
     can_drive = is.can_drive;
     nodes = λ n low. is.nodes n (subst (λ (x : Plan). n < length x.nodes) is.plan_is low);
-    empty = empty;
-    rooms = rooms;
+    bare = (none, bare);
+    adopted = omega (arith, room, count);
+    done = omega (arith, more, count);
   }
 
   pub done_of : (done : List LoopState) → AreDone p.shared.score.plan.value p.shared.score.waves.value done → AreDone plan waves done

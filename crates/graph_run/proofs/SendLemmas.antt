@@ -92,6 +92,10 @@ pub alone_send : IsSend alone_row.the_row
 alone_send = let a : IsSend shared_row.the_field.row = shared_field in let b : IsSend driving_row.the_field.row = driving_field in
     let c : IsSend rooms_row.the_field.row = rooms_field in search (crossing, loop_send) depth 30 fits 50000
 
+pub alone_field : IsSend alone_row.the_field.row
+alone_field = let a : IsSend shared_row.the_field.row = shared_field in let b : IsSend driving_row.the_field.row = driving_field in
+    let c : IsSend rooms_row.the_field.row = rooms_field in search (crossing, loop_send) depth 30 fits 50000
+
 pub ended_send : IsSend ended_row.the_row
 ended_send = let c : IsSend rooms_row.the_field.row = rooms_field in
     search (crossing, loop_send, board_send, driver_send) depth 30 fits 50000

@@ -2,8 +2,7 @@
 -- after its last epoch.
 -- Source: PipeWire's documentation, "Data loops"; that the driver's thread adopts a loop is this
 -- project's own.
-use Rattle.std.specs.Prelude.{◌≡◌, ◌⊎◌, ℕ, ◌<◌, Bool, false, List, Result, Contains, IfOk, IfErr, length, map, slice_index_or}
-use Rattle.std.specs.declared.thread.PromisedHandle.{PromisedHandle}
+use Rattle.std.specs.Prelude.{◌≡◌, ◌⊎◌, ℕ, ◌<◌, List, Contains, length, map, slice_index_or}
 use Rattle.data_loop.specs.declared.loop_state.LoopState.{LoopState}
 use Rattle.data_loop.specs.Loops.{plan_of}
 use Rattle.data_loop.specs.LoopKept.{IsDone}
@@ -11,9 +10,6 @@ use Rattle.data_loop.specs.LoopWay.{IsSameLoop, IsWayFor, IsDriverWay}
 use Rattle.graph_run.specs.declared.shared.LoopWay.{LoopWay}
 use Rattle.graph_run.specs.declared.shared.Shared.{Shared}
 use Rattle.graph_run.specs.declared.leading.Driving.{Driving}
-use Rattle.graph_run.specs.declared.starting.SameLoop.{SameLoop}
-use Rattle.graph_run.specs.declared.starting.Start.{Start}
-use Rattle.graph_run.specs.declared.starting.Start.TheVariants.{Running, Adopted, Done}
 use Rattle.graph_run.specs.LoopsOnPlan.{IsReady, HasDrivers, HasNoDriver, AreFirstLeads}
 use Rattle.graph_run.specs.Outcomes.{IsDoneOf}
 
@@ -47,25 +43,9 @@ pub record HasRun (s t : LoopState) : Type 0 where
   pub done : IsDone t
   pub same : IsSameLoop s t
 
--- what a loop's thread gives back
-pub record Returns (given : LoopWay) (r : Result LoopState LoopWay) : Type 0 where
-  pub ok : IfOk r (HasRun given.state)
-  pub err : IfErr r (λ back. back ≡ given)
-
--- what became of its start: one that is named is adopted; of the others a thread has the loop, or
--- its start was refused
-abbrev pub IsStart : Bool → LoopWay → Start → Type 0
-IsStart named given (Running h) = (named ≡ false) × (h.promise.given.value ≡ given)
-IsStart named given (Adopted s) = s ≡ given.state
-IsStart named given (Done s) = (named ≡ false) × HasRun given.state s
-
 -- the nodes of each loop of a list
 abbrev pub nodes_with : List LoopState → List (List ℕ)
 nodes_with states = map (λ s. s.nodes) states
-
-abbrev pub nodes_under : List (PromisedHandle (Result LoopState LoopWay) SameLoop)
-    → List (List ℕ)
-nodes_under handles = map (λ h. h.promise.given.value.state.nodes) handles
 
 -- a node is one of the driver's own loop, or of one of the others
 abbrev pub HasNode : LoopState → List LoopWay → ℕ → Type 0

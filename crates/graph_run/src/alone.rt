@@ -5,7 +5,7 @@ ghost use Rattle.cycle_model.specs.WavesFit.{WavesFit};
 ghost use Rattle.graph_run.specs.RunStages.{IsAloneRun, CanRunAlone, HasRunAlone};
 
 use crate::ended::EndedRun;
-use crate::leading::{Driving, Led, lead};
+use crate::leading::{Driving, Led, drive};
 use crate::preparing::{Prepared, prepare};
 use crate::rooms::{Rooms, rooms_for};
 use crate::shared::Shared;
@@ -66,7 +66,7 @@ pub fn run_alone<R: Wait, G: Gate>(rt: &R, alloc: Global, gate: &G, run: AloneRu
         mut done,
         rooms,
     } = run;
-    let Led { own, drivers, .. } = lead(
+    let Led { own, drivers, .. } = drive(
         rt,
         gate,
         &shared,

@@ -29,8 +29,8 @@ pub(crate) struct Led {
     pub drivers: Items<DriverSeat>,
 }
 
-// All epochs, by the driver's thread.
-pub(crate) fn lead<R: Wait, G: Gate, K: Ticker>(
+/// All epochs, by the driver's thread. It may wait. Takes no memory.
+pub(crate) fn drive<R: Wait, G: Gate, K: Ticker>(
     rt: &R,
     gate: &G,
     shared: &Shared,

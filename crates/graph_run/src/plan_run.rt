@@ -8,13 +8,12 @@ ghost use Rattle.ready_queues.specs.Lanes.{loops_limit};
 ghost use Rattle.graph_run.specs.Assignment.{loop_of};
 ghost use Rattle.graph_run.specs.PlanRun.{IsRunOf};
 
+use crate::crew::{EndedLoops, LeadStart};
 use crate::ended::{EndedRun, finish_run};
 use crate::preparing::{Prepared, prepare};
-use crate::rooms::{lists_for, rooms_for};
-use crate::roster::Roster;
-use crate::scope::{Crew, Ended, run_threads};
-use crate::starts::{AnyStarts, Starts};
+use crate::rooms::rooms_for;
 use board_rule::Closed;
+use crew_run::{AnyStarts, Roster, Starts, places_for, run};
 use pw_graph::Plan;
 use pw_lists::{Items, Memory};
 use pw_outside::{Gate, Ticker};
@@ -54,19 +53,24 @@ pub fn run_plan_with<R: Threads + Wait + Sync, G: Gate + Sync, K: Ticker, S: Sta
     ensures waves { IfOk result (λ r. All (λ kept. IsWave kept.wav) r.0.sinks) }
     ensures later { K.ticks ticker.old ≤ K.ticks ticker.new }
 {
-    let lists = lists_for(alloc, roster.loops as usize)?;
+    let places = places_for(alloc, roster.loops as usize)?;
+    let adopted = Items::new(alloc).into_room(roster.loops as usize)?;
+    let done = Items::new(alloc).into_room(roster.loops as usize + 1)?;
     let rooms = rooms_for(alloc, plan)?;
     let Prepared {
         shared,
         loops: others,
         driving,
     } = prepare(alloc, plan, waves, roster.loops)?;
-    let crew = Crew {
-        loops: others,
+    let lead = LeadStart {
         driving,
-        lists,
+        adopted,
+        done,
     };
-    let Ended { done, drivers } = run_threads(rt, gate, &shared, roster, crew, ticker);
+    let (starts, adopt) = (roster.starts, roster.adopt);
+    let EndedLoops { done, drivers } = run(
+        rt, gate, &shared, starts, adopt, others, lead, places, ticker,
+    );
     let ended = EndedRun {
         boards: shared.boards,
         drivers,

@@ -16,7 +16,6 @@ use node_progress::Score;
 use pw_graph::Plan;
 use pw_lists::{Items, Memory};
 use std::alloc::Global;
-use std::sync::atomic::AtomicU64;
 use wav_files::WavIn;
 
 // Each loop with its way.
@@ -69,7 +68,6 @@ pub(crate) fn prepare(
         shared: Shared {
             boards: all.boards,
             ways,
-            refused: AtomicU64::new(0),
             score: Score::of(plan, waves),
         },
         loops,

@@ -1,12 +1,9 @@
 //! The room that a run needs, taken before its first cycle.
-ghost use Rattle.std.specs.Prelude.{◌≡◌, ◌≤◌, IfOk, IfSome};
+ghost use Rattle.std.specs.Prelude.{◌≡◌, IfOk, IfSome};
 ghost use Rattle.pw_graph.specs.Layout.{event_count};
 ghost use Rattle.pw_graph.specs.PlanSums.{events_of};
-ghost use Rattle.ready_queues.specs.Lanes.{loops_limit};
-ghost use Rattle.graph_run.specs.working.Lists.{AreEmpty, HaveRooms};
 ghost use Rattle.graph_run.specs.Rooms.{AreRooms};
 
-use crate::lists::Lists;
 use board_rule::Closed;
 use pw_graph::{Event, Plan, Shape};
 use pw_lists::{Items, Memory, Room};
@@ -30,22 +27,6 @@ fn all_events(plan: &Plan) -> Option<usize>
         sum = sum.checked_add(epoch_events(&epoch.shape)?)?;
     }
     Some(sum)
-}
-
-/// Lists for `count` loops beside the driver's own. They are empty.
-pub(crate) fn lists_for(alloc: Global, count: usize) -> Result<Lists, Memory>
-    requires few { count ≤ loops_limit }
-    ensures empty { IfOk result AreEmpty }
-    ensures rooms { IfOk result (HaveRooms count) }
-{
-    let running = Items::new(alloc).into_room(count)?;
-    let adopted = Items::new(alloc).into_room(count)?;
-    let done = Items::new(alloc).into_room(count + 1)?;
-    Ok(Lists {
-        running,
-        adopted,
-        done,
-    })
 }
 
 /// Empty lists for what a run answers: the closed boards and all their events, and what the sinks

@@ -3,15 +3,12 @@ use board_rule::Board;
 use data_loop::{LoopState, Way, Ways};
 use node_progress::Score;
 use pw_lists::Items;
-use std::sync::atomic::AtomicU64;
 
-/// The boards of a run in the order of the epochs, and what its threads have of the queues. Bit k
-/// of `refused` says that loop k could not be started.
+/// The boards of a run in the order of the epochs, and what its threads have of the queues.
 #[derive(Drop)]
 pub(crate) struct Shared {
     pub boards: Items<Board>,
     pub ways: Ways,
-    pub refused: AtomicU64,
     pub score: Score,
 }
 

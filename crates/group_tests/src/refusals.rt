@@ -23,6 +23,10 @@ enum Refusing {
 }
 
 impl Starts for Refusing {
+    ghost use Rattle.group_tests.specs.Refusals.{is_refused};
+
+    ghost refused = { is_refused };
+
     fn refuses(&self, number: u32) -> bool {
         match self {
             Refusing::One(place) => number == *place,

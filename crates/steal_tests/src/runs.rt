@@ -29,6 +29,10 @@ struct Refusing {
 }
 
 impl Starts for Refusing {
+    ghost use Rattle.std.specs.Prelude.{◌==◌};
+
+    ghost refused = { λ s number. number == s.number };
+
     fn refuses(&self, number: u32) -> bool {
         number == self.number
     }

@@ -4,12 +4,9 @@ use Rattle.std.specs.Prelude.{◌≡◌, ℕ, ◌<◌, List, All, length, map}
 use Rattle.std.specs.List.{enumerate_from}
 use Rattle.pw_graph.specs.declared.plan.Plan.{Plan}
 use Rattle.wav_files.specs.declared.wav.WavIn.{WavIn}
-use Rattle.graph_run.specs.declared.shared.Shared.{Shared}
 use Rattle.graph_run.specs.declared.preparing.Prepared.{Prepared}
-use Rattle.graph_run.specs.declared.scope.Crew.{Crew}
 use Rattle.graph_run.specs.Assignment.{loop_of}
 use Rattle.graph_run.specs.Boards.{AreBoardsBy, driver_of}
-use Rattle.graph_run.specs.working.Lists.{AreEmpty, HaveRooms}
 use Rattle.graph_run.specs.Threads.{CanStart, CanDrive, HasNode}
 
 -- PREPARED: boards, loops and drivers' seats of the plan. Each node of the plan is one of some loop
@@ -24,12 +21,3 @@ pub record IsPrepared (plan : Plan) (waves : List WavIn) (loops : ℕ)
   pub can_drive : CanDrive r.shared r.driving
   pub count : length r.loops ≡ loops
   pub nodes : (n : ℕ) → n < length plan.nodes → HasNode r.driving.own r.loops n
-
--- THE CREW: loops that can start, and lists with room for all of them
-pub record IsCrew (shared : Shared) (c : Crew) : Type 0 where
-  pub can_start : All (CanStart shared) c.loops
-  pub can_drive : CanDrive shared c.driving
-  pub nodes : (n : ℕ) → n < length shared.score.plan.value.nodes
-      → HasNode c.driving.own c.loops n
-  pub empty : AreEmpty c.lists
-  pub rooms : HaveRooms (length c.loops) c.lists

@@ -17,7 +17,7 @@ use Rattle.graph_run.proofs.preparing.prepare.Goals as goal
 pub returns : goal.returns
 returns c = let plan = c.args.plan.now in let waves = c.args.waves.now in let loops = c.args.loops in
     let all = c.in_ok-all.all in let made = c.in_ok-all.ensures in let w = c.in_ok-ways.ensures in
-    let shared : Shared = record { boards = all.boards; ways = c.in_ok-ways.ways; refused = c.new.result; score = c.of.result } in
+    let shared : Shared = record { boards = all.boards; ways = c.in_ok-ways.ways; score = c.of.result } in
     let xs : List LoopState = c.pop.new.self in let own : LoopState = c.unwrap-own.result in
     let rows : List (List Known) = map (λ (r : Listed Known). r.list) all.seats.items in
     let whole : c.in_ok-states.states ≡ xs ++ own ∷ [] = c.pop.ensures.list ∙ ap (λ (o : Option LoopState). xs ++ option_to_list o) c.unwrap-own.ensures in

@@ -7,7 +7,7 @@ use Rattle.graph_run.specs.Leads.{HaveLed, HaveLooked}
 use Rattle.graph_run.specs.LoopsOnPlan.{HasCome}
 use Rattle.graph_run.specs.Threads.{HasRun}
 use Rattle.graph_run.proofs.DoneLemmas.{came, each_came}
-use Rattle.graph_run.proofs.leading.lead.Goals as goal
+use Rattle.graph_run.proofs.leading.drive.Goals as goal
 
 pub returns-clause-own : goal.returns-clause-own
 returns-clause-own g c = came c.args.shared.now.boards c.args.driving.own c.run_epochs.new.own c.requires.drives.ready c.run_epochs.ensures.own
