@@ -1,5 +1,5 @@
 -- Lists of runs, each beside its part.
-use Rattle.std.proofs.Common.{◌≡◌, ℕ, zero, suc, ◌+◌, ◌<◌, ◌≤◌, List, [], ◌∷◌, ◌++◌, length, map, take, drop, get_or, refl, sym, ap, ◌∙◌, subst, arith, append-nil}
+use Rattle.std.proofs.Common.{◌≡◌, ℕ, zero, suc, ◌+◌, ◌<◌, ◌≤◌, Bool, true, false, ⊎_elim, List, [], ◌∷◌, ◌++◌, length, map, take, drop, get_or, refl, sym, ap, ◌∙◌, subst, arith, append-nil}
 use Rattle.std.specs.Prelude.{All, sum_by, count_by}
 use Rattle.std.specs.List.{AllZip}
 use Rattle.std.proofs.lemmas.List.{append_assoc, length-map, drop_more}
@@ -17,6 +17,7 @@ use Rattle.wav_files.specs.WavWriting.{IsWave}
 use Rattle.cycle_model.specs.Rendering.{rendered_sinks, rendered_peaks}
 use Rattle.board_rule.specs.declared.board_shape.BoardShape.{BoardShape}
 use Rattle.board_rule.specs.declared.closed.Closed.{Closed}
+use Rattle.crew_run.specs.Dealt.{AreDealt}
 use Rattle.graph_run.specs.declared.alone.AloneRun.{AloneRun}
 use Rattle.graph_run.specs.declared.ended.EndedRun.{EndedRun}
 use Rattle.graph_run.specs.Assignment.{loop_of}
@@ -25,10 +26,10 @@ use Rattle.graph_run.specs.PlanRun.{IsRunOf}
 use Rattle.graph_run.specs.RunStages.{CanRunAlone, HasRunAlone}
 use Rattle.graph_run.proofs.RunStagesLemmas.{can_run, ended_of, boards_by}
 use Rattle.pw_graph.specs.declared.parts.Part.{Part}
-use Rattle.driver_groups.specs.declared.running.Crew.{Crew}
-use Rattle.driver_groups.specs.declared.starting.Start.{Start}
+use Rattle.driver_groups.specs.declared.crew.PlacedRun.{PlacedRun}
 use Rattle.driver_groups.specs.GroupRun.{IsPartRun, AreRunsOf}
-use Rattle.driver_groups.specs.working.Groups.{IsStart, AreStarted, HasBegun, ArePrepared, IsRunOfPart, IsEndedPart, CanRunAll, IsCrewOf}
+use Rattle.driver_groups.specs.working.Crew.{runs_of, merged}
+use Rattle.driver_groups.specs.working.Groups.{ArePrepared, IsRunOfPart, IsEndedPart}
 
 -- one more pair
 pub zip_push : {A B : Type 0} (R : A → B → Type 0) (xs : List A) (ys : List B) (x : A) (y : B) → AllZip R xs ys → R x y
@@ -64,41 +65,38 @@ zip_all R P gives (x ∷ xs) (y ∷ ys) t (suc k) d low = zip_all R P gives xs y
 pub part_can_run : (waves : List WavIn) (p : Part) (r : AloneRun) → IsRunOfPart waves p r → CanRunAlone r
 part_can_run waves p r is = can_run p.plan waves r is
 
--- the runs of a crew of parts may run
-pub crew_can_run : (waves : List WavIn) (parts : List Part) (c : Crew) → IsCrewOf waves parts c → CanRunAll c
-crew_can_run waves parts c is =
-    let all = zip_all (IsRunOfPart waves) CanRunAlone (part_can_run waves) parts (c.first ∷ c.others) is.runs in record {
-      first = All-head CanRunAlone c.first c.others all;
-      others = All-tail CanRunAlone c.first c.others all;
-      room = is.room;
-    }
-
--- what was begun, one more
-pub begun_more : (starts : List Start) (old ended : List EndedRun) (s : Start) (e : EndedRun) → AreStarted starts old ended
-    → ((given : AloneRun) → IsStart given s → HasRunAlone given e) → AreStarted (starts ++ s ∷ []) old (ended ++ e ∷ [])
-begun_more starts old ended s e h ends = (
-  h.0 ++ e ∷ [],
-  ap (λ (l : List EndedRun). l ++ e ∷ []) h.1 ∙ append_assoc old h.0 (e ∷ []),
-  λ runs zip. split runs starts h.0 h.2 zip,
-)
+-- MERGED are the runs of all members, of those that were held and of those that came back
+pub merged_zip : (ps : List PlacedRun) (kept : List Bool) (held : List PlacedRun) (waited backs : List EndedRun)
+    → AreDealt (λ (p : PlacedRun) (e : EndedRun). HasRunAlone p.run e) ps kept held backs
+    → AllZip (λ (p : PlacedRun) (e : EndedRun). HasRunAlone p.run e) held waited → AllZip HasRunAlone (runs_of ps) (merged kept waited backs)
+merged_zip [] kept held waited backs all zip = subst (λ (k : List Bool). AllZip HasRunAlone [] (merged k waited backs)) (sym all.0) tt
+merged_zip (p ∷ ps) kept held waited backs all zip = ⊎_elim
+    (λ a. let z = subst (λ (l : List PlacedRun). AllZip (λ (x : PlacedRun) (e : EndedRun). HasRunAlone x.run e) l waited) a.3 zip in
+    subst (λ (k : List Bool). AllZip HasRunAlone (runs_of (p ∷ ps)) (merged k waited backs)) (sym a.2)
+    (first a.0 a.1 waited (λ es r. merged_zip ps a.0 a.1 es backs a.4 r) z))
+    (λ a. subst (λ (x : List Bool × List EndedRun). AllZip HasRunAlone (runs_of (p ∷ ps)) (merged x.0 waited x.1))
+    (λ i. (sym a.3 i, sym a.4 i)) (a.5, merged_zip ps a.0 held waited a.2 a.6 zip))
+    all
   where
-    split : (runs : List AloneRun) (ss : List Start) (more : List EndedRun)
-        → ((rs : List AloneRun) → AllZip IsStart rs ss → AllZip HasRunAlone rs more)
-        → AllZip IsStart runs (ss ++ s ∷ []) → AllZip HasRunAlone runs (more ++ e ∷ [])
-    split runs ss more each zip = let c = cut runs ss zip in
-        subst (λ (l : List AloneRun). AllZip HasRunAlone l (more ++ e ∷ [])) (sym c.2)
-        (zip_push HasRunAlone c.0 more c.1 e (each c.0 c.3) (ends c.1 c.4))
-      where
-        cut : (rs : List AloneRun) (ss : List Start) → AllZip IsStart rs (ss ++ s ∷ [])
-            → (front : List AloneRun) × (last : AloneRun) × (rs ≡ front ++ last ∷ []) × AllZip IsStart front ss × IsStart last s
-        cut [] [] t = absurd t
-        cut (r ∷ []) [] t = ([], r, refl, tt, t.0)
-        cut (r ∷ x ∷ rs) [] t = absurd t.1
-        cut [] (y ∷ ys) t = absurd t
-        cut (r ∷ rs) (y ∷ ys) t = let c = cut rs ys t.1 in (r ∷ c.0, c.1, ap (λ (l : List AloneRun). r ∷ l) c.2, (t.0, c.3), c.4)
+    first : (flags : List Bool) (rest : List PlacedRun) (w : List EndedRun)
+        → ((es : List EndedRun) → AllZip (λ (x : PlacedRun) (e : EndedRun). HasRunAlone x.run e) rest es
+        → AllZip HasRunAlone (runs_of ps) (merged flags es backs))
+        → AllZip (λ (x : PlacedRun) (e : EndedRun). HasRunAlone x.run e) (p ∷ rest) w
+        → AllZip HasRunAlone (runs_of (p ∷ ps)) (merged (true ∷ flags) w backs)
+    first flags rest [] next z = absurd z
+    first flags rest (e ∷ es) next z = (z.0, next es z.1)
+
+-- as many flags as members
+pub dealt_flags : (ps : List PlacedRun) (kept : List Bool) (held : List PlacedRun) (backs : List EndedRun)
+    → AreDealt (λ (p : PlacedRun) (e : EndedRun). HasRunAlone p.run e) ps kept held backs → length kept ≡ length ps
+dealt_flags [] kept held backs all = ap (λ (l : List Bool). length l) all.0
+dealt_flags (p ∷ ps) kept held backs all = ⊎_elim
+    (λ a. ap (λ (l : List Bool). length l) a.2 ∙ ap suc (dealt_flags ps a.0 a.1 backs a.4))
+    (λ a. ap (λ (l : List Bool). length l) a.3 ∙ ap suc (dealt_flags ps a.0 held a.2 a.6))
+    all
 
 -- the ends of all runs are those of the parts
-pub ended_parts : (waves : List WavIn) (ps : List Part) (rs : List AloneRun) (es : List EndedRun) → ArePrepared waves ps rs
+pub ended_parts : (waves : List WavIn) (ps : List Part) (rs : List AloneRun) (es : List EndedRun) → AllZip (IsRunOfPart waves) ps rs
     → AllZip HasRunAlone rs es → AllZip (λ p e. IsEndedPart waves p.plan e) ps es
 ended_parts waves [] [] [] t u = tt
 ended_parts waves [] [] (e ∷ es) t u = absurd u
@@ -113,6 +111,13 @@ ended_parts waves (p ∷ ps) (r ∷ rs) (e ∷ es) t u = (
   },
   ended_parts waves ps rs es t.1 u.1,
 )
+
+-- runs without their places
+pub unplaced : (waves : List WavIn) (ps : List Part) (rs : List PlacedRun) → ArePrepared waves ps rs → AllZip (IsRunOfPart waves) ps (runs_of rs)
+unplaced waves [] [] t = tt
+unplaced waves [] (r ∷ rs) t = absurd t
+unplaced waves (p ∷ ps) [] t = absurd t
+unplaced waves (p ∷ ps) (r ∷ rs) t = (t.0, unplaced waves ps rs t.1)
 
 -- THE RUN of a part from that of its plan
 pub part_run : (plan : Plan) (waves : List WavIn) (o : Outcome) (closed : List Closed) (checks : ℕ) → o.sinks ≡ rendered_sinks plan waves
@@ -149,14 +154,6 @@ runs_more waves (q ∷ ps) (u ∷ os) closed p o own t is = (
   t.3,
   runs_more waves ps os t.1 p o own t.4 is,
 )
-
--- nothing was begun
-pub none_started : (old : List EndedRun) → AreStarted [] old old
-none_started old = ([], sym (append-nil old), λ runs zip. none runs zip)
-  where
-    none : (runs : List AloneRun) → AllZip IsStart runs [] → AllZip HasRunAlone runs []
-    none [] t = tt
-    none (r ∷ rs) t = absurd t
 
 -- of lists beside each other the first is as long as the second, so nothing is left of it
 pub all_taken : {A : Type 0} (xs : List A) (k : ℕ) → drop k xs ≡ [] → k ≤ length xs → take k xs ≡ xs

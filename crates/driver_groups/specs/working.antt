@@ -1,2 +1,3 @@
 -- Runs of parts by threads of their own. Source: this project's own.
+pub mod Crew
 pub mod Groups

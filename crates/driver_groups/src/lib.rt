@@ -4,10 +4,9 @@
 //! a thread of its own; one whose start is refused is run by the caller's thread after the first.
 #![tactic(auto)]
 
+mod crew;
 mod finishing;
 mod group_run;
 mod preparing;
-mod running;
-mod starting;
 
 pub use group_run::{run_parts, run_parts_with};

@@ -1,19 +1,19 @@
-use Rattle.std.proofs.Common.{◌∙◌, List, ◌++◌, ◌∷◌, [], take, get_or, sym, ap, subst}
+use Rattle.std.proofs.Common.{◌∙◌, List, ◌++◌, ◌∷◌, [], take, sym, ap, subst}
 use Rattle.cycle_model.specs.WavesFit.{WavesFit}
-use Rattle.graph_run.specs.declared.alone.AloneRun.{AloneRun}
 use Rattle.std.proofs.lemmas.List.{take_more}
 use Rattle.pw_graph.specs.declared.parts.Part.{Part}
+use Rattle.driver_groups.specs.declared.crew.PlacedRun.{PlacedRun}
 use Rattle.driver_groups.specs.working.Groups.{ArePrepared, IsRunOfPart}
 use Rattle.driver_groups.proofs.GroupLemmas.{zip_push}
 use Rattle.driver_groups.proofs.preparing.prepare_all.Goals as goal
 
-pub prepare_alone-requires-clause-fit : goal.prepare_alone-requires-clause-fit
-prepare_alone-requires-clause-fit c = subst (λ (p : Part). WavesFit p.plan c.args.waves.now) (sym c.part-item.is)
+pub prepare_one-requires-clause-fit : goal.prepare_one-requires-clause-fit
+prepare_one-requires-clause-fit c = subst (λ (p : Part). WavesFit p.plan c.args.waves.now) (sym c.part-item.is)
     (c.requires.fit c.loop-part.part-index c.part-item.result c.loop-part-test.true)
 
 pub loop-part-preserved : goal.loop-part-preserved
 loop-part-preserved c = let waves = c.args.waves.now in let parts = c.args.parts.now in let k = c.loop-part.part-index in
-    let p : Part = c.part-item.result in let r : AloneRun = c.in_ok-prepare_alone.field-0 in
-    subst (λ (x : List Part × List AloneRun). ArePrepared waves x.0 x.1)
+    let p : Part = c.part-item.result in let r : PlacedRun = c.in_ok-prepare_one.field-0 in
+    subst (λ (x : List Part × List PlacedRun). ArePrepared waves x.0 x.1)
     (λ j. (sym (take_more parts k p c.loop-part-test.true ∙ ap (λ (q : Part). take k parts ++ q ∷ []) (sym c.part-item.is)) j, sym c.in_ok-push.ensures.ok j))
-    (zip_push (IsRunOfPart waves) (take k parts) c.loop-part.runs p r c.loop-part.invariant c.in_ok-prepare_alone.ensures)
+    (zip_push (λ (q : Part) (x : PlacedRun). IsRunOfPart waves q x.run) (take k parts) c.loop-part.runs p r c.loop-part.invariant c.in_ok-prepare_one.ensures.run)
