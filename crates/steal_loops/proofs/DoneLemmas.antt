@@ -5,7 +5,6 @@ use Rattle.std.proofs.lemmas.Bool.{cases_lt}
 use Rattle.std.proofs.lemmas.List.{get_or_append_left, get_or_push}
 use Rattle.std.proofs.lemmas.List.Elements.{All-push}
 use Rattle.std.proofs.lemmas.Option.{get_or_from_slice_get}
-use Rattle.std.specs.declared.thread.JoinHandle.{JoinHandle}
 use Rattle.pw_lists.specs.Listed.{Listed}
 use Rattle.pw_graph.specs.declared.plan.Plan.{Plan}
 use Rattle.wav_files.specs.declared.wav.WavIn.{WavIn}
@@ -18,7 +17,7 @@ use Rattle.steal_shelf.specs.Seats.{cells_of}
 use Rattle.steal_loops.specs.declared.preparing.Prepared.{Prepared}
 use Rattle.steal_loops.specs.declared.shared.Shared.{Shared}
 use Rattle.steal_loops.specs.working.Cells.{AreCells, IsFinished, AreCollected}
-use Rattle.steal_loops.specs.working.Crews.{HasNode, IsPrepared, IsCrew}
+use Rattle.steal_loops.specs.working.Crews.{HasNode, IsPrepared, CanStart, CanLead}
 
 -- nothing is collected; and one cell more
 pub none_collected : (shared : Shared) (list : List LoopState) → list ≡ [] → AreCollected shared 0 list
@@ -97,16 +96,17 @@ module _ (shared : Shared) (cells : AreCells shared) (own end : LoopState) (plan
 
 -- what the threads begin with, and all in the end, from what was prepared
 module _ (plan : Plan) (waves : List WavIn) (loops : ℕ) (p : Prepared) (is : IsPrepared plan waves loops p) where
-  pub crew : (handles : Listed (JoinHandle ℕ)) → handles.list ≡ [] → loops ≤ handles.spare → (done : Listed LoopState) → done.list ≡ []
-      → p.shared.seating.loops + 1 ≤ done.spare
-      → IsCrew p.shared (record { workers = p.workers; driving = p.driving; handles = handles; done = done })
-  crew handles none room done empty spare = record {
+  pub can_start : All (CanStart p.shared) p.workers
+  can_start i d low = record { cells = is.cells; worker = is.workers i d low }
+
+  pub can_lead : (done : Listed LoopState) → done.list ≡ [] → p.shared.seating.loops + 1 ≤ done.spare
+      → CanLead p.shared (record { driving = p.driving; done = done })
+  can_lead done empty spare = record {
     cells = is.cells;
-    workers = is.workers;
     can_drive = is.can_drive;
     nodes = λ n low. is.nodes n (subst (λ (x : Plan). n < length x.nodes) is.plan_is low);
-    handles = (none, (let n = is.count in omega (arith, n, room)));
-    done = (empty, (let n = is.cells.count in omega (arith, n, spare)));
+    bare = empty;
+    room = (let n = is.cells.count in omega (arith, n, spare));
   }
 
   pub done_of : (done : List LoopState) → AreDone p.shared.score.plan.value p.shared.score.waves.value done → AreDone plan waves done

@@ -72,7 +72,7 @@ fn run_epochs<R: Wait, G: Gate, K: Ticker>(
 
 /// All epochs of a plan, by the driver's thread, where `absent` of the workers were not started. It
 /// may wait. Takes no memory.
-pub(crate) fn lead<R: Wait, G: Gate, K: Ticker>(
+pub(crate) fn drive<R: Wait, G: Gate, K: Ticker>(
     rt: &R,
     gate: &G,
     shared: &Shared,

@@ -9,6 +9,7 @@
 
 mod cell_steps;
 mod collecting;
+mod crew;
 mod epoch;
 mod leading;
 mod opening;
@@ -16,11 +17,9 @@ mod patrol;
 mod preparing;
 mod ready;
 mod rounds;
-mod scope;
 mod shared;
 mod signs;
 mod site;
-mod starting;
 mod stealing_run;
 mod taker;
 mod visiting;

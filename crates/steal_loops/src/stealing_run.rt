@@ -8,9 +8,10 @@ ghost use Rattle.ready_queues.specs.Lanes.{loops_limit};
 ghost use Rattle.graph_run.specs.Assignment.{cell_number, cell_count};
 ghost use Rattle.graph_run.specs.PlanRun.{IsRunOf};
 
+use crate::crew::{EndedCells, LeadState};
 use crate::preparing::{Prepared, prepare};
-use crate::scope::{Crew, Ended, run_threads};
 use board_rule::Closed;
+use crew_run::{places_for, run};
 use graph_run::{AnyStarts, EndedRun, Roster, Starts, finish_run, rooms_for};
 use pw_graph::Plan;
 use pw_lists::{Items, Memory};
@@ -47,24 +48,29 @@ pub fn run_stealing_with<R: Threads + Wait + Sync, G: Gate + Sync, K: Ticker, S:
     ensures later { K.ticks ticker.old ≤ K.ticks ticker.new }
 {
     let rooms = rooms_for(alloc, plan)?;
-    let handles = Items::new(alloc).into_room(roster.loops as usize)?;
+    let places = places_for(alloc, roster.loops as usize)?;
     let Prepared {
         shared,
         workers,
         driving,
     } = prepare(alloc, plan, waves, roster.loops)?;
     let done = Items::new(alloc).into_room(shared.seating.loops() as usize + 1)?;
-    let crew = Crew {
-        workers,
-        driving,
-        handles,
-        done,
-    };
-    let Ended {
+    let (starts, adopt) = (roster.starts, roster.adopt);
+    let EndedCells {
         done,
         drivers,
         taken,
-    } = run_threads(rt, gate, &shared, roster, crew, ticker);
+    } = run(
+        rt,
+        gate,
+        &shared,
+        starts,
+        adopt,
+        workers,
+        LeadState { driving, done },
+        places,
+        ticker,
+    );
     let ended = EndedRun::new(shared.boards, drivers, done, rooms);
     let (outcome, closed) = finish_run(alloc, plan, waves, ended);
     Ok((outcome, closed, taken))

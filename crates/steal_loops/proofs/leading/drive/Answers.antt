@@ -3,7 +3,7 @@ use Rattle.std.proofs.lemmas.List.{with_items_is}
 use Rattle.board_rule.specs.Known.{Known}
 use Rattle.graph_run.specs.Leads.{HaveLed, HaveLooked}
 use Rattle.graph_run.proofs.DoneLemmas.{came}
-use Rattle.steal_loops.proofs.leading.lead.Goals as goal
+use Rattle.steal_loops.proofs.leading.drive.Goals as goal
 
 pub returns-clause-own : goal.returns-clause-own
 returns-clause-own g c = came c.args.shared.now.boards c.args.driving.own c.run_epochs.new.own c.requires.drives.ready c.run_epochs.ensures.own

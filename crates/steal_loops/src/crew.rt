@@ -1,0 +1,141 @@
+//! The workers of a run as a crew: what a worker's thread does, and what the driver's thread does,
+//! which leads and then takes the cells.
+ghost use Rattle.std.specs.Prelude.{◌≡◌};
+
+use crate::collecting::collect_all;
+use crate::leading::{Driving, drive};
+use crate::shared::Shared;
+use crate::taker::Taker;
+use crate::workers::run_worker;
+use board_rule::DriverSeat;
+use crew_run::{Crew, Work};
+use data_loop::LoopState;
+use pw_lists::{Items, Room};
+use pw_outside::{Gate, Ticker};
+use std::sync::Wait;
+
+/// What the driver's thread leads with: what it drives with, and room for all cells and its own
+/// loop in the end.
+#[derive(Drop)]
+pub(crate) struct LeadState {
+    pub driving: Driving,
+    pub done: Room<LoopState>,
+}
+
+/// All cells and the driver's own loop, and the drivers' seats of all boards, after the last
+/// epoch; and how many numbers the workers took out of their queues.
+#[derive(Drop)]
+pub(crate) struct EndedCells {
+    pub done: Items<LoopState>,
+    pub drivers: Items<DriverSeat>,
+    pub taken: u64,
+}
+
+impl Work<Taker, u64> for Shared {
+    ghost use Rattle.std.specs.Prelude.{⊤};
+    ghost use Rattle.steal_loops.specs.working.Crews.{CanStart};
+
+    ghost number_of = { λ taker. taker.way.number };
+
+    ghost can_start = { CanStart };
+
+    ghost has_run = { λ _ _. ⊤ };
+
+    fn number(member: &Taker) -> u32 {
+        member.way.number()
+    }
+
+    // All that a worker does: how many numbers it took out of its queue.
+    fn work<R: Wait, G: Gate>(&self, rt: &R, gate: &G, member: Taker) -> u64 {
+        run_worker(rt, gate, self, member).way.taken()
+    }
+}
+
+// How many workers were not started. They drop what they have: others find all cells.
+fn count_absent(held: Items<Taker>) -> usize {
+    held.len()
+}
+
+// How many numbers the workers took out of their queues in all. No clause says how many. Takes no
+// memory.
+fn sum_of(backs: Items<u64>) -> u64 {
+    let mut taken = 0u64;
+    for one in backs.into_vec() {
+        taken = taken.saturating_add(one);
+    }
+    taken
+}
+
+impl Crew<Taker, u64> for Shared {
+    ghost use Rattle.std.specs.Prelude.{◌≤◌, ⊤, ℕ, List, All, length};
+    ghost use Rattle.crew_run.specs.Dealt.{AreDealt};
+    ghost use Rattle.steal_loops.specs.declared.crew.LeadState.{LeadState};
+    ghost use Rattle.steal_loops.specs.declared.taker.Taker.{Taker};
+    ghost use Rattle.steal_loops.specs.working.Crews.{CanStart, CanLead, HasLedRun, HaveEnded};
+
+    type Lead = LeadState;
+
+    type Led = LeadState;
+
+    type Ended = EndedCells;
+
+    ghost can_lead = { λ shared lead _. CanLead shared lead };
+
+    ghost has_led = { λ shared lead _ led m n. HasLedRun shared lead led m n };
+
+    ghost has_ended = { λ shared lead _ ended m n. HaveEnded shared lead ended m n };
+
+    // All epochs, by the driver's thread.
+    fn lead<R: Wait, G: Gate, K: Ticker>(
+        &self,
+        rt: &R,
+        gate: &G,
+        lead: LeadState,
+        held: Items<Taker>,
+        ticker: &mut K,
+    ) -> LeadState
+        requires leads { (members : List Taker) × CanLead self.now lead
+            × (length held ≤ length members) }
+        requires held { All (CanStart self.now) held }
+        ensures { HasLedRun self.now lead result (K.ticks ticker.old) (K.ticks ticker.new) }
+    {
+        let LeadState { driving, done } = lead;
+        let absent = count_absent(held);
+        let driving = drive(rt, gate, self, driving, absent, ticker);
+        LeadState { driving, done }
+    }
+
+    // All cells and the driver's own loop. A cell that was taken before all workers are joined
+    // would leave them waiting for it.
+    fn collect<R: Wait, G: Gate>(
+        &self,
+        rt: &R,
+        gate: &G,
+        led: LeadState,
+        kept: Items<bool>,
+        backs: Items<u64>,
+    ) -> EndedCells
+        requires { (lead : LeadState) × (members : List Taker) × (held : List Taker)
+            × (m : ℕ) × (n : ℕ) × CanLead self.now lead × HasLedRun self.now lead led m n
+            × AreDealt (λ _ _. ⊤) members kept held backs }
+        ensures { (lead : LeadState) (members held : List Taker) (m n : ℕ)
+            → CanLead self.now lead → HasLedRun self.now lead led m n
+            → AreDealt (λ _ _. ⊤) members kept held backs
+            → HaveEnded self.now lead result m n }
+    {
+        let _ = kept;
+        let LeadState { driving, mut done } = led;
+        let Driving {
+            own,
+            drivers,
+            mut taker,
+        } = driving;
+        collect_all(rt, gate, self, &mut taker.seat, &mut done);
+        done.push_spare(own);
+        EndedCells {
+            done: done.into_items(),
+            drivers,
+            taken: sum_of(backs),
+        }
+    }
+}
