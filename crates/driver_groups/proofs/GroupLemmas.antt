@@ -1,15 +1,12 @@
 -- Lists of runs, each beside its part.
-use Rattle.std.proofs.Common.{◌≡◌, ℕ, zero, suc, ◌+◌, ◌<◌, ◌≤◌, Bool, true, false, ⊎_elim, List, [], ◌∷◌, ◌++◌, length, map, take, drop, get_or, refl, sym, ap, ◌∙◌, subst, arith, append-nil}
-use Rattle.std.specs.Prelude.{All, sum_by, count_by}
+use Rattle.std.proofs.Common.{◌≡◌, ℕ, zero, suc, ◌+◌, ◌<◌, ◌≤◌, Bool, true, ⊎_elim, List, [], ◌∷◌, ◌++◌, length, map, take, drop, get_or, refl, sym, ap, ◌∙◌, subst, arith, append-nil}
+use Rattle.std.specs.Prelude.{All}
 use Rattle.std.specs.List.{AllZip}
 use Rattle.std.proofs.lemmas.List.{append_assoc, length-map, drop_more}
-use Rattle.std.proofs.lemmas.List.Elements.{All-head, All-tail}
 use Rattle.std.proofs.lemmas.Simd.{map-map}
-use Rattle.pw_graph.specs.declared.event.Event.{Event}
 use Rattle.pw_graph.specs.declared.shape.Shape.{Shape}
 use Rattle.pw_graph.specs.declared.plan.Epoch.{Epoch}
 use Rattle.pw_graph.specs.declared.plan.Plan.{Plan}
-use Rattle.pw_graph.specs.History.{is_tick}
 use Rattle.wav_files.specs.declared.wav.WavIn.{WavIn}
 use Rattle.wav_files.specs.declared.outcome.Kept.{Kept}
 use Rattle.wav_files.specs.declared.outcome.Outcome.{Outcome}

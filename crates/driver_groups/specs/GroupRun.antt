@@ -1,9 +1,8 @@
 -- Runs of several plans at once: what is left of each.
 -- Source: PipeWire's documentation, "Graph Scheduling" (several drivers); boards are this
 -- project's own.
-use Rattle.std.specs.Prelude.{◌≡◌, ℕ, List, [], ◌∷◌, ◌++◌, length, map, count_by, All}
+use Rattle.std.specs.Prelude.{◌≡◌, List, [], ◌∷◌, ◌++◌, length, map, count_by, All}
 use Rattle.std.specs.List.{flat_map, range_with_len}
-use Rattle.pw_graph.specs.declared.event.Event.{Event}
 use Rattle.pw_graph.specs.declared.plan.Plan.{Plan}
 use Rattle.pw_graph.specs.History.{is_tick, IsLegalHistory}
 use Rattle.wav_files.specs.declared.wav.WavIn.{WavIn}

@@ -1,6 +1,5 @@
-use Rattle.std.proofs.Common.{length, sym, ap, arith}
+use Rattle.std.proofs.Common.{arith}
 use Rattle.driver_groups.proofs.GroupLemmas.{part_run, closed_count}
-use Rattle.driver_groups.specs.GroupRun.{IsPartRun}
 use Rattle.graph_run.specs.Assignment.{loop_of}
 use Rattle.graph_run.specs.Leads.{checks_of}
 use Rattle.driver_groups.proofs.finishing.finish_one.Goals as goal

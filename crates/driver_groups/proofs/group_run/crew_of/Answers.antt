@@ -1,4 +1,4 @@
-use Rattle.std.proofs.Common.{◌≡◌, ◌∙◌, ◌≤◌, ℕ, false, List, ◌∷◌, length, replicate, sym, ap, subst, arith}
+use Rattle.std.proofs.Common.{◌∙◌, ◌≤◌, ℕ, false, List, length, replicate, sym, ap, subst, arith}
 use Rattle.std.specs.Prelude.{All}
 use Rattle.std.proofs.lemmas.List.Elements.{All-head, All-tail}
 use Rattle.pw_graph.specs.SoundPlan.{IsSoundPlan}
@@ -6,7 +6,7 @@ use Rattle.cycle_model.specs.WavesFit.{WavesFit}
 use Rattle.crew_run.specs.Places.{HavePlaces}
 use Rattle.pw_graph.specs.declared.parts.Part.{Part}
 use Rattle.driver_groups.specs.declared.crew.PlacedRun.{PlacedRun}
-use Rattle.driver_groups.specs.working.Groups.{IsRunOfPart, epochs_of}
+use Rattle.driver_groups.specs.working.Groups.{IsRunOfPart}
 use Rattle.driver_groups.proofs.GroupLemmas.{zip_long, part_can_run}
 use Rattle.driver_groups.proofs.group_run.crew_of.Goals as goal
 

@@ -1,4 +1,4 @@
-use Rattle.std.proofs.Common.{◌∙◌, ◌≤◌, ◌<◌, [], ◌∷◌, ◌++◌, List, length, sym, ap, subst, arith}
+use Rattle.std.proofs.Common.{◌∙◌, [], ◌∷◌, ◌++◌, List, sym, ap, subst, arith}
 use Rattle.std.specs.List.{AllZip}
 use Rattle.pw_lists.specs.Listed.{Listed}
 use Rattle.graph_run.specs.declared.ended.EndedRun.{EndedRun}
