@@ -1,8 +1,8 @@
-//! Scripts planned again and again, or read alone.
+//! Scripts planned again and again, or only read.
 
 use crate::scripts::{epochs_of, lines_of};
 use graph_script::parse;
-use plan_tests::plan_text;
+use plan_support::plan_text;
 use pw_graph::{Epoch, Plan};
 use pw_lists::{Memory, SCRIPT_BYTES_LIMIT};
 use std::alloc::Global;
@@ -62,7 +62,7 @@ fn plan_again(alloc: Global, text: &str, repeats: u32) -> u32 {
     sum
 }
 
-// The same of how often a text is read alone.
+// The same of a text that is only read again and again.
 fn parse_again(alloc: Global, text: &str, repeats: u32) -> u32 {
     let mut sum = 0u32;
     for _round in 0..repeats {
@@ -77,7 +77,7 @@ pub fn plan_epochs(alloc: Global, n: usize, repeats: u32) -> Result<u32, Memory>
     Ok(plan_again(alloc, text.as_str(), repeats))
 }
 
-/// Plans one epoch behind at most `n` lines.
+/// Plans one epoch after at most `n` lines.
 pub fn plan_lines(alloc: Global, n: usize, repeats: u32) -> Result<u32, Memory> {
     let text = lines_of(alloc, n)?;
     Ok(plan_again(alloc, text.as_str(), repeats))

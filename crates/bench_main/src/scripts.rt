@@ -1,4 +1,4 @@
-//! A script of 63 nodes and 256 links, and lines behind it.
+//! A script of 63 nodes and 256 links, and lines after it.
 
 use pw_lists::Memory;
 use std::alloc::Global;
@@ -68,7 +68,7 @@ pub fn epochs_of(alloc: Global, n: usize) -> Result<String, Memory> {
     Ok(text)
 }
 
-/// The graph for one epoch, behind at most `n` lines that make none.
+/// The graph for one epoch, after at most `n` lines that make none.
 pub fn lines_of(alloc: Global, n: usize) -> Result<String, Memory> {
     let mut text = graph_of(alloc)?;
     for i in 0..n / 6 {

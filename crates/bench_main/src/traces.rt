@@ -1,6 +1,6 @@
 //! The events of a run checked again and again, and plain scans of them.
 
-use plan_tests::plan_text;
+use plan_support::plan_text;
 use pw_graph::Event;
 use pw_lists::{Items, Memory};
 use std::alloc::Global;

@@ -5,7 +5,7 @@ ghost use Rattle.cycle_model.specs.WavesFit.{WavesFit};
 ghost use Rattle.group_tests.specs.Groups.{CanRunAll};
 
 use cycle_model::waves_fit;
-use plan_tests::{Silence, plan_text};
+use plan_support::{Silence, plan_text};
 use pw_graph::{Part, Plan};
 use pw_lists::{Items, Memory};
 use std::alloc::Global;

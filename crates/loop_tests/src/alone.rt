@@ -5,17 +5,17 @@ ghost use Rattle.data_loop.specs.Loops.{IsLoop, plan_of};
 ghost use Rattle.ready_queues.specs.Lanes.{loops_limit};
 ghost use Rattle.graph_run.specs.LoopsOnPlan.{IsReady, HasDrivers, HasNoDriver, AreFirstLeads, HasCome};
 ghost use Rattle.graph_run.specs.Seating.{holder_of, nodes_of_loop};
-ghost use Rattle.loop_tests.specs.Work.{CanRun};
+ghost use Rattle.plan_support.specs.Work.{CanRun};
 
 use crate::runs::has_one;
 use crate::threads::{BOTH, TWO_SQUARES};
-use crate::work::{Work, WorkRow, work_of};
 use board_rule::{Board, DriverSeat};
 use data_loop::{LoopState, Way, Ways};
 use graph_run::{
     Course, Seating, boards_of, finish_run, loop_seating, loops_of, prepare_alone, run_alone,
     run_epochs,
 };
+use plan_support::{Work, WorkRow, work_of};
 use pw_graph::{Kind, Plan};
 use pw_lists::{Items, Memory};
 use pw_outside::{Every, Open};

@@ -2,11 +2,11 @@
 //! boards.
 ghost use Rattle.std.specs.Prelude.{◌≤◌};
 ghost use Rattle.ready_queues.specs.Lanes.{loops_limit};
-ghost use Rattle.loop_tests.specs.Work.{CanRun};
+ghost use Rattle.plan_support.specs.Work.{CanRun};
 
 use crate::threads::TWO_SQUARES;
-use crate::work::{Work, work_of};
 use graph_run::{boards_of, cell_seating, loop_of, loop_seating, nodes_of_loop};
+use plan_support::{Work, work_of};
 use pw_graph::{NODES, Plan};
 use std::alloc::Global;
 use std::test::Fail;

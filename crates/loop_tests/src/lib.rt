@@ -1,8 +1,8 @@
 //! Tests of runs by loops and threads, over plans of script texts: the words of a board step by
 //! step, loops in one thread, and whole runs by threads.
 //!
-//! `work_of` makes a plan of a text; `crew_of` puts the driver's thread and all loops of a plan of
-//! one epoch on its board, of which a test makes one step after the other.
+//! `work_of` of plan_support makes a plan of a text; `crew_of` puts the driver's thread and all
+//! loops of a plan of one epoch on its board, of which a test makes one step after the other.
 #![tactic(auto)]
 
 #[cfg(test)]
@@ -30,7 +30,5 @@ mod threads;
 mod waits;
 #[cfg(test)]
 mod words;
-#[cfg(test)]
-mod work;
 
 pub use crew::Crew;

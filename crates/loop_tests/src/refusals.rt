@@ -1,9 +1,9 @@
 //! Runs of loops of which one cannot be started in a thread of its own.
-ghost use Rattle.loop_tests.specs.Work.{CanRun};
+ghost use Rattle.plan_support.specs.Work.{CanRun};
 
 use crate::runs::{Kept, have_kept};
-use crate::work::{Work, WorkRow, work_of};
 use graph_run::{Roster, Starts, run_plan_with};
+use plan_support::{Work, WorkRow, work_of};
 use pw_outside::{Every, Gate, Meet, Open};
 use std::alloc::Global;
 use std::sync::Wait;

@@ -1,9 +1,9 @@
 //! Whole runs by threads, whose sinks are compared.
-ghost use Rattle.loop_tests.specs.Work.{CanRun};
+ghost use Rattle.plan_support.specs.Work.{CanRun};
 
-use crate::work::{Work, WorkRow, work_of};
 use graph_checks::is_legal_history;
 use graph_run::run_plan;
+use plan_support::{Work, WorkRow, work_of};
 use pw_outside::{Every, Gate, Meet, Open};
 use std::alloc::Global;
 use std::sync::Wait;

@@ -4,14 +4,14 @@ ghost use Rattle.board_rule.specs.OnBoard.{layout, table_of};
 ghost use Rattle.data_loop.specs.LoopsOnBoards.{IsOnBoard};
 ghost use Rattle.ready_queues.specs.Lanes.{loops_limit};
 ghost use Rattle.loop_tests.specs.Crew.{IsCrewOn};
-ghost use Rattle.loop_tests.specs.Work.{CanRun};
+ghost use Rattle.plan_support.specs.Work.{CanRun};
 
 use crate::crew::Crew;
-use crate::work::Work;
 use board_rule::{Board, BoardSeat, Closed};
 use data_loop::{Did, LoopState, Tried, settle};
 use driver_cycle::{begin_next, lead_once, look};
 use graph_run::{boards_of, loop_seating, loops_of};
+use plan_support::Work;
 use pw_outside::{Every, Gate, Never, Open};
 use std::alloc::Global;
 use std::sync::Wait;

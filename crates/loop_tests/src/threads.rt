@@ -1,7 +1,7 @@
 //! Whole runs by threads: whichever loops are adopted, and however many there are.
 
 use crate::runs::{Kept, RunRow, first_unlike, meet_in};
-use crate::work::WorkRow;
+use plan_support::WorkRow;
 use std::alloc::Global;
 use std::sync::Wait;
 use std::test::Fail;

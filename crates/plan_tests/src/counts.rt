@@ -1,7 +1,7 @@
 //! Required counts, targets and forms.
 
 use crate::showing::{Part, expect_part};
-use crate::silence::Silence;
+use plan_support::Silence;
 use std::test::Fail;
 
 /// The split and the mix of a stereo source.

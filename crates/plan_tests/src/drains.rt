@@ -1,7 +1,7 @@
 //! Cycles of `drain` lines.
 
 use crate::showing::{Part, expect_part};
-use crate::silence::Silence;
+use plan_support::Silence;
 use std::test::Fail;
 
 // While it is off the source needs no cycle, and gives no frame.

@@ -1,7 +1,7 @@
 //! What is active from epoch to epoch.
 
 use crate::showing::{Part, expect_part};
-use crate::silence::Silence;
+use plan_support::Silence;
 use std::test::Fail;
 
 #[test]
@@ -16,7 +16,7 @@ fn a_node_is_off_in_the_next_epoch(rt: HostRuntime) -> Result<(), Fail> {
     expect_part(&rt, text, sources.as_slice(), Part::Fresh, wanted)
 }
 
-// Of two parts that no link joins, the one with the driver is active alone.
+// Of two parts that no link joins, only the one with the driver is active.
 #[test]
 fn the_first_driver_of_the_greatest_priority_drives(rt: HostRuntime) -> Result<(), Fail> {
     let text = "square q 48000 1 4 1\nmeter p\nsink o o.wav\ndriver o 5\ndriver p 5\n\

@@ -1,7 +1,7 @@
 //! Nodes that begin anew.
 
 use crate::showing::{Part, expect_part};
-use crate::silence::Silence;
+use plan_support::Silence;
 use std::test::Fail;
 
 // The sink had a link and keeps its format; the source and the delay gave theirs up.

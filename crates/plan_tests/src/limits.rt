@@ -1,11 +1,11 @@
 //! Limits, up to them and one above.
 
 use crate::showing::{Part, expect_limit, expect_part};
-use crate::texts::plan_text;
+use plan_support::plan_text;
 use pw_lists::{Memory, Which};
 use std::test::Fail;
 
-// Each cycle of the built-in driver alone has five events, of which there may be 4,194,304.
+// Each cycle of only the built-in driver has five events, of which there may be 4,194,304.
 #[test]
 fn events_are_planned_up_to_the_limit(rt: HostRuntime) -> Result<(), Fail> {
     let wanted = "from 0 cycles 838860 driver 63\nnode 63 waits 1 wakes 63\n";

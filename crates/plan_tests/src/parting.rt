@@ -1,7 +1,6 @@
 //! The nodes of the parts of a script.
 
-use crate::silence::Silence;
-use crate::texts::parts_text;
+use plan_support::{Silence, parts_text};
 use pw_lists::{Items, Memory};
 use std::alloc::Global;
 use std::process::Abort;
@@ -42,7 +41,7 @@ fn links_join_nodes_to_parts(rt: HostRuntime) -> Result<(), Fail> {
     expect_parts(&rt, "meter a\nmeter b\ncycles 1\n", "0 \n1 \n")
 }
 
-// A link counts at whatever line it was made, also behind a line that a run would stop at.
+// A link counts at whatever line it was made, also after a line that a run would stop at.
 #[test]
 fn links_that_were_taken_away_join(rt: HostRuntime) -> Result<(), Fail> {
     let text = "square q 48000 1 4 1\nmeter p\nmeter r\nlink q.out p.in\nunlink q.out p.in\n";

@@ -1,8 +1,7 @@
 //! The plans of the parts of a script.
 
-use crate::silence::Silence;
-use crate::texts::{TextFault, plans_text};
 use graph_plan::PlanFault;
+use plan_support::{Silence, TextFault, plans_text};
 use pw_graph::{LineOutcome, LinkLine, Part, Parts, Shape};
 use pw_lists::{Memory, Which};
 use std::alloc::Global;
@@ -148,7 +147,7 @@ fn lines_between_parts_change_nothing(rt: HostRuntime) -> Result<(), Fail> {
     expect_plans(&rt, text, wanted)
 }
 
-// Counts of buffers that do not meet join nothing either. A loop is closed within a part alone: the
+// Counts of buffers that do not meet join nothing either. A loop is closed only within a part: the
 // links that lead back have joined its nodes.
 #[test]
 fn refused_lines_join_nothing(rt: HostRuntime) -> Result<(), Fail> {

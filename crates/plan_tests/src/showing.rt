@@ -1,8 +1,7 @@
 //! The epochs of a plan as text, and comparisons with what is wanted.
 
-use crate::silence::Silence;
-use crate::texts::{TextFault, plan_text};
 use graph_plan::PlanFault;
+use plan_support::{Silence, TextFault, plan_text};
 use pw_graph::{Epoch, Fresh, Plan, PortForm, ShapeLink, ShapeNode};
 use pw_lists::{Memory, Which};
 use std::alloc::Global;
@@ -85,7 +84,7 @@ fn put_forms(alloc: Global, text: &mut String, epoch: &Epoch) -> Result<(), Memo
     Ok(())
 }
 
-/// What is shown of each epoch, behind its cycles and its driver.
+/// What is shown of each epoch, after its cycles and its driver.
 #[derive(Clone, Copy, Drop)]
 pub enum Part {
     Nothing,

@@ -1,2 +1,1 @@
 pub mod Threads
-pub mod Work

@@ -1,5 +1,5 @@
 //! Whole runs of the graph that is drawn from a number, beside a plain fold.
-ghost use Rattle.soak_tests.specs.Work.{CanRun};
+ghost use Rattle.plan_support.specs.Work.{CanRun};
 
 use crate::plain::{Played, fold_of};
 use crate::work::{Work, work_of};

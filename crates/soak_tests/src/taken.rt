@@ -2,7 +2,7 @@
 ghost use Rattle.std.specs.Prelude.{◌≡◌, ◌≤◌, All, IfOk, IfSome, length, map};
 ghost use Rattle.ready_queues.specs.Lanes.{loops_limit};
 ghost use Rattle.soak_tests.specs.Threads.{CanStart, CanDrive};
-ghost use Rattle.soak_tests.specs.Work.{CanRun};
+ghost use Rattle.plan_support.specs.Work.{CanRun};
 
 use crate::work::{Work, work_of};
 use board_rule::{Board, DriverSeat};

@@ -1,6 +1,6 @@
 //! The plan of a number's graph.
 ghost use Rattle.std.specs.Prelude.{IfOk, IfSome};
-ghost use Rattle.soak_tests.specs.Work.{CanRun};
+ghost use Rattle.plan_support.specs.Work.{CanRun};
 
 use graph_plan::plan;
 use graph_script::Script;

@@ -6,5 +6,3 @@
 mod runs;
 #[cfg(test)]
 mod stealing;
-#[cfg(test)]
-mod work;

@@ -1,9 +1,9 @@
 //! Whole runs by loops that steal, whose sinks are compared.
-ghost use Rattle.steal_tests.specs.Work.{CanRun};
+ghost use Rattle.plan_support.specs.Work.{CanRun};
 
-use crate::work::{Work, WorkRow, work_of};
 use graph_checks::is_legal_history;
 use graph_run::{Roster, Starts};
+use plan_support::{Work, WorkRow, work_of};
 use pw_outside::{Every, Gate, Open};
 use std::alloc::Global;
 use std::sync::Wait;

@@ -1,7 +1,7 @@
 //! What the sinks keep by any loops that steal, and who meets.
 
 use crate::runs::{RunRow, first_unlike, goes_by, peak_by, row_goes_refused};
-use crate::work::WorkRow;
+use plan_support::WorkRow;
 use pw_outside::Meet;
 use std::alloc::Global;
 use std::sync::Wait;

@@ -1,0 +1,2 @@
+-- What only the makers of plans go by. Source: this project's own.
+pub mod Ready
