@@ -297,7 +297,7 @@ fn first_unlike_row(alloc: Global) -> Option<(usize, usize)> {
 }
 
 #[test]
-fn words_stand_from_step_to_step(rt: HostRuntime) -> Result<(), Fail> {
+fn each_step_leaves_its_words(rt: HostRuntime) -> Result<(), Fail> {
     assert_eq!(rt; first_unlike_row(rt.alloc()), None);
     Ok(())
 }
@@ -322,7 +322,7 @@ fn ends_with_events(alloc: Global) -> bool {
 }
 
 #[test]
-fn one_cycle_with_a_late_check(rt: HostRuntime) -> Result<(), Fail> {
+fn a_late_check_names_who_has_not_finished(rt: HostRuntime) -> Result<(), Fail> {
     assert!(rt; ends_with_events(rt.alloc()));
     Ok(())
 }
