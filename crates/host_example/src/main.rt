@@ -3,12 +3,14 @@
 //!
 //! Copy this crate, and change `SCRIPT`, `VOICES` and what `main` does with the answer. The steps
 //! are those of any host: the text becomes a script (`parse`), the script's nodes get ports and its
-//! sources waves (`nodes_of`), its lines become a plan (`plan`), and threads run the plan
+//! sources waves (`inputs_of`), its lines become a plan (`plan`), and threads run the plan
 //! (`run_plan`). docs/HOSTING.md walks through it.
 #![tactic(auto)]
 
 mod fault;
-mod nodes;
+#[cfg(test)]
+mod tests;
+mod voices;
 
 ghost use Rattle.std.specs.Prelude.{◌≡◌, IfOk, map, string_bytes};
 ghost use Rattle.pw_graph.specs.SoundPlan.{IsSoundPlan};
@@ -18,13 +20,14 @@ ghost use Rattle.host_example.specs.SinkLine.{sink_line};
 ghost use Rattle.host_example.specs.Voices.{IsPlayed};
 
 use crate::fault::HostFault;
-use crate::nodes::{Nodes, nodes_of};
+use crate::voices::waves_of;
 use graph_plan::plan;
 use graph_run::run_plan;
 use graph_script::parse;
 use pw_graph::Plan;
 use pw_lists::{Items, Memory, SCRIPT_BYTES_LIMIT};
-use pw_outside::{Never, Open};
+use pw_outside::{Gate, Never, Open};
+use script_inputs::{Inputs, inputs_of};
 use std::alloc::Global;
 use std::process::ExitCode;
 use std::sync::Wait;
@@ -44,33 +47,36 @@ const VOICES: [&[i16]; 2] = [
 
 /// Runs a plan by two loops beside the thread that drives. What each sink has kept, ascending by
 /// node, is what the cycle function says in one thread, whatever the order of the threads' steps.
-fn run_by_two<R: Threads + Wait + Sync>(
+fn run_by_two<R: Threads + Wait + Sync, G: Gate + Sync>(
     rt: &R,
     alloc: Global,
     plan: &Plan,
     waves: &Items<WavIn>,
+    gate: &G,
 ) -> Result<Items<Kept>, Memory>
     requires sound { IsSoundPlan plan.now }
     requires fit { WavesFit plan.now waves.now }
     ensures { IfOk result (λ sinks. sinks ≡ rendered_sinks plan.now waves.now) }
 {
-    // A gate is told of each node that begins its work, a ticker says when late nodes are looked
-    // for: this host wants neither. `false`: each loop has a thread of its own.
-    let (gate, mut ticker) = (Open::new(), Never::new());
+    // A ticker says when late nodes are looked for: this host wants none. `false`: each loop has a
+    // thread of its own.
+    let mut ticker = Never::new();
     let threads = [false, false];
-    match run_plan(rt, alloc, plan, waves, 2, &threads, &gate, &mut ticker) {
+    match run_plan(rt, alloc, plan, waves, 2, &threads, gate, &mut ticker) {
         Ok((outcome, _boards)) => Ok(outcome.sinks),
         Err(Memory) => Err(Memory),
     }
 }
 
-/// What the sinks of a script keep, whose sources have these samples: all steps from text to
-/// samples.
-fn play<R: Threads + Wait + Sync>(
+/// What the sinks of a script keep, whose sources have these samples in the order of their lines:
+/// all steps from text to samples. A script with more sources than voices, or with an `offer` line,
+/// is refused; a voice without a source is left out.
+fn play<R: Threads + Wait + Sync, G: Gate + Sync>(
     rt: &R,
     alloc: Global,
     text: &str,
     voices: &[&[i16]],
+    gate: &G,
 ) -> Result<Items<Kept>, HostFault>
     ensures { IfOk result (IsPlayed text.now (map (λ v. v.now) voices.now)) }
 {
@@ -79,9 +85,11 @@ fn play<R: Threads + Wait + Sync>(
         return Err(HostFault::TooLong);
     }
     let script = parse(alloc, bytes)?;
-    let Nodes { ports, waves, .. } = nodes_of(alloc, &script, voices)?;
+    let waves = waves_of(alloc, voices)?;
+    let formats = Items::new(alloc);
+    let Inputs { ports, waves } = inputs_of(alloc, &script, waves, formats.as_slice())?;
     let plan = plan(alloc, &script, &waves, ports)?;
-    Ok(run_by_two(rt, alloc, &plan, &waves)?)
+    Ok(run_by_two(rt, alloc, &plan, &waves, gate)?)
 }
 
 /// The line of a sink: its number among the script's nodes, and its samples.
@@ -108,11 +116,13 @@ fn print_sinks<R: Print + Alloc<A = Global>>(rt: &R, sinks: &[Kept]) -> Result<(
 }
 
 fn main(rt: HostRuntime) -> ExitCode {
-    let told = match play(&rt, rt.alloc(), SCRIPT, VOICES.as_slice()) {
+    // A gate is called as each node begins its work: that of this host lets each pass.
+    let gate = Open::new();
+    let printed = match play(&rt, rt.alloc(), SCRIPT, VOICES.as_slice(), &gate) {
         Ok(sinks) => print_sinks(&rt, sinks.as_slice()),
         Err(fault) => Err(fault),
     };
-    match told {
+    match printed {
         Ok(()) => ExitCode::from(0),
         Err(fault) => {
             let _ = println!(rt; "{fault:?}");
