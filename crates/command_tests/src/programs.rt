@@ -1,13 +1,14 @@
 //! What the program does with words, files, an output and an error output, all in memory.
 
 use pw_lists::{Items, Memory};
-use pw_outside::{FileFail, Files, MemSink};
-use pw_program::run_program;
+use pw_outside::{FileFail, Files, MemSink, SureFiles, SureSink};
+use pw_program::{Asked, run_program, run_read};
 use row_files::{Faults, S_WAV, SCRIPT, SURE, files_of, words_of};
 use std::alloc::Global;
 use std::sync::Wait;
 use std::test::Fail;
 use std::thread::Threads;
+use system_files::Unread;
 
 /// A line of words over files, the number that it ends with, and what both outputs are given.
 #[derive(Clone, Copy, Drop)]
@@ -173,5 +174,45 @@ fn a_long_text_has_its_notes(rt: HostRuntime) -> Result<(), Fail> {
     let text = repeated(alloc, made, b"nolink s.out o.in twice\n", b"wrote o 4\n")?;
     let notes = noted(alloc)?;
     assert!(rt; notes_are(&rt, script.as_slice(), text.as_slice(), notes.as_slice())?);
+    Ok(())
+}
+
+#[test]
+fn words_that_were_not_read_have_their_sentence(rt: HostRuntime) -> Result<(), Fail> {
+    let alloc = rt.alloc();
+    let rows = [
+        (
+            Unread::NoText { word: 3 },
+            1,
+            b"pipegraph: word 3 is not text in UTF-8\n".as_slice(),
+        ),
+        (Unread::Memory, 9, b"pipegraph: no memory was left\n"),
+    ];
+    for (unread, code, sentence) in rows {
+        let (files, out) = (SureFiles::new(alloc)?, SureSink::new(alloc)?);
+        let mut errors = SureSink::new(alloc)?;
+        let exit = run_read(&rt, alloc, Err(unread), files, out, &mut errors);
+        assert_eq!(rt; (exit.code, exit.said), (code, Ok(())));
+        assert!(rt; matches!(exit.ticker, Asked::Never));
+        assert!(rt; exit.out.bytes().as_slice().is_empty());
+        assert!(rt; errors.bytes().as_slice() == sentence);
+    }
+    Ok(())
+}
+
+#[test]
+fn words_that_were_read_are_run_by_their_ticker(rt: HostRuntime) -> Result<(), Fail> {
+    let alloc = rt.alloc();
+    for (line, ticks) in [("run s.graph", false), ("run s.graph --ticks 7", true)] {
+        let words = words_of(alloc, line)?;
+        let files = files_of(alloc, SCRIPT, &[S_WAV], SURE)?;
+        let (out, mut errors) = (MemSink::new(alloc)?, MemSink::new(alloc)?);
+        let exit = run_read(&rt, alloc, Ok(words), files, out, &mut errors);
+        assert_eq!(rt; (exit.code, exit.said), (0, Ok(())));
+        assert_eq!(rt; matches!(exit.ticker, Asked::Every(_)), ticks);
+        let text = b"link s.out o.in 48000 1 2\nwrote o 4\n".as_slice();
+        assert!(rt; exit.out.bytes().as_slice() == text);
+        assert!(rt; errors.bytes().as_slice().is_empty());
+    }
     Ok(())
 }

@@ -1,9 +1,20 @@
 //! `pipegraph`: what `pw_program` does, over the system's files and outputs.
 #![tactic(auto)]
 
-use pw_program::run_system;
+use pw_program::run_read;
 use std::process::ExitCode;
+use system_files::{DiskFiles, StdSink, read_words};
 
 fn main(rt: HostRuntime) -> ExitCode {
-    ExitCode::from(run_system(&rt, &rt.stderr()))
+    ExitCode::from(
+        run_read(
+            &rt,
+            rt.alloc(),
+            read_words(&rt),
+            DiskFiles::new(&rt),
+            StdSink::new(&rt),
+            &mut StdSink::new(&rt.stderr()),
+        )
+        .code,
+    )
 }

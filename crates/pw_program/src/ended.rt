@@ -1,10 +1,12 @@
 //! How a command line ended.
 
+use crate::asking::Asked;
 use pw_lists::Text;
+use pw_outside::FileFail;
 use pw_top::Status;
 
-/// A run that was made: its status, the files and the output after it, and the script that it
-/// loaded and the text that it put, where these are kept.
+/// A run that was made: its status, the files and the output after it, the script that it loaded
+/// and the text that it put, where these are kept.
 #[derive(Drop)]
 pub(crate) struct Ran<F, O> {
     pub status: Status,
@@ -14,12 +16,25 @@ pub(crate) struct Ran<F, O> {
     pub told: Option<Text>,
 }
 
-/// The status of a command line, the number that the program ends with, and the files and the
-/// output after it.
+/// The status of a command line, the number that the program ends with, the files, the output and
+/// the ticker after it, and what the put of its sentence answered: `Memory` where memory was short
+/// for it.
 #[derive(Drop)]
 pub struct Ended<F, O> {
     pub status: Status,
     pub code: u8,
     pub files: F,
     pub out: O,
+    pub ticker: Asked,
+    pub said: Result<(), FileFail>,
+}
+
+/// The same of words that may not have been read, so that there is no status.
+#[derive(Drop)]
+pub struct Exit<F, O> {
+    pub code: u8,
+    pub files: F,
+    pub out: O,
+    pub ticker: Asked,
+    pub said: Result<(), FileFail>,
 }

@@ -3,12 +3,14 @@
 //! with. What the run loaded and put is kept for these; nothing is opened after the run.
 #![tactic(auto)]
 
+mod asking;
 mod ended;
+mod exit;
 mod program;
 mod running;
-mod system;
 mod telling;
 
-pub use ended::Ended;
+pub use asking::Asked;
+pub use ended::{Ended, Exit};
+pub use exit::run_read;
 pub use program::run_program;
-pub use system::run_system;

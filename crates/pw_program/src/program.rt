@@ -3,11 +3,13 @@ ghost use Rattle.std.specs.Prelude.{◌≡◌, map, string_bytes};
 ghost use Rattle.pw_top.specs.FaultCauses.{Caused, IsUsage};
 ghost use Rattle.pw_top.specs.Outside.{outside};
 ghost use Rattle.pw_top.specs.StatusLine.{status_number};
-ghost use Rattle.pw_top.specs.Usage.{command_of};
+ghost use Rattle.pw_top.specs.Usage.{command_of, ticks_in};
 ghost use Rattle.fault_messages.specs.Explaining.{explained};
 ghost use Rattle.kept_output.specs.KeptOutput.{IsTied};
-ghost use Rattle.pw_program.specs.Program.{IsToldOf, IsSaid, HasSaid};
+ghost use Rattle.pw_program.specs.Asking.{period_of, checks_of};
+ghost use Rattle.pw_program.specs.Program.{shown, IsToldOf, IsSaid, HasSaid};
 
+use crate::asking::Asked;
 use crate::ended::{Ended, Ran};
 use crate::running::run_kept;
 use crate::telling::tell;
@@ -22,14 +24,16 @@ fn finish<F: Files, O: Sink, E: Sink>(
     alloc: Global,
     words: &[String],
     ran: Ran<F, O>,
+    ticker: Asked,
     errors: &mut E,
 ) -> Ended<F, O>
     ensures files { result.files ≡ ran.files }
     ensures out { result.out ≡ ran.out }
     ensures status { result.status ≡ ran.status }
     ensures code { result.code ≡ status_number ran.status }
+    ensures ticker { result.ticker ≡ ticker }
     ensures said { IsSaid (explained ran.status (map string_bytes words.now) ran.script ran.told)
-        (E.faults errors.old) (E.faults errors.new) (E.given errors.old) (E.given errors.new) }
+        (shown E.Sink errors.old) (shown E.Sink errors.new) result.said }
 {
     let Ran {
         status,
@@ -38,12 +42,14 @@ fn finish<F: Files, O: Sink, E: Sink>(
         script,
         told,
     } = ran;
-    tell(alloc, words, &status, &script, &told, errors);
+    let said = tell(alloc, words, &status, &script, &told, errors);
     Ended {
         status,
         code: status.number(),
         files,
         out,
+        ticker,
+        said,
     }
 }
 
@@ -53,7 +59,7 @@ fn finish<F: Files, O: Sink, E: Sink>(
 /// Files, output and status are those of `run_words`: the output has what that call put and nothing
 /// else. Sentence and notes are made of the words, of the bytes of the script that the run loaded
 /// and of the text that it put; nothing is loaded or stored for them, and where they cannot be put,
-/// nothing else changes.
+/// nothing else changes. The ticker is the one that `--ticks` names.
 pub fn run_program<R: Threads + Wait + Sync, F: Files, O: Sink, E: Sink>(
     rt: &R,
     alloc: Global,
@@ -62,9 +68,11 @@ pub fn run_program<R: Threads + Wait + Sync, F: Files, O: Sink, E: Sink>(
     out: O,
     errors: &mut E,
 ) -> Ended<F, O>
-    // The answer of the top call: files and output by the status, where they are told.
+    // The answer of the top call: files and output by the status, where they are told, and the
+    // checks of the ticker that the words ask for.
     ensures told { IsToldOf (map string_bytes words.now) (outside F.Files O.Sink files out)
-        (outside F.Files O.Sink result.files result.out) result.status }
+        (outside F.Files O.Sink result.files result.out) 0 (checks_of result.ticker) result.status }
+    ensures asked { period_of result.ticker ≡ ticks_in (command_of (map string_bytes words.now)) }
     ensures cause { Caused (outside F.Files O.Sink files out)
         (outside F.Files O.Sink result.files result.out) result.status }
     ensures usage { IsUsage (command_of (map string_bytes words.now)) result.status }
@@ -72,9 +80,9 @@ pub fn run_program<R: Threads + Wait + Sync, F: Files, O: Sink, E: Sink>(
 
     // The sentence or the notes, with lines of the script that the run read, and by what it put.
     ensures said { HasSaid (F.held files) (IsTied (O.given out) (O.given result.out))
-        (map string_bytes words.now) result.status (E.faults errors.old) (E.faults errors.new)
-        (E.given errors.old) (E.given errors.new) }
+        (map string_bytes words.now) result.status (shown E.Sink errors.old)
+        (shown E.Sink errors.new) result.said }
 {
-    let ran = run_kept(rt, alloc, words, files, out);
-    finish(alloc, words, ran, errors)
+    let (ran, ticker) = run_kept(rt, alloc, words, files, out);
+    finish(alloc, words, ran, ticker, errors)
 }

@@ -1,18 +1,20 @@
 //! The top call, over files that keep what the run loaded first, and an output that keeps what it
 //! put.
-ghost use Rattle.std.specs.Prelude.{◌≡◌, map, string_bytes};
+ghost use Rattle.std.specs.Prelude.{◌≡◌, ◌≤◌, map, string_bytes};
 ghost use Rattle.pw_top.specs.FaultCauses.{Caused, IsUsage};
 ghost use Rattle.pw_top.specs.Outside.{outside};
-ghost use Rattle.pw_top.specs.Usage.{command_of};
+ghost use Rattle.pw_top.specs.Usage.{command_of, ticks_in};
 ghost use Rattle.first_load.specs.FirstLoad.{IsReadOf};
 ghost use Rattle.kept_output.specs.KeptOutput.{IsTied};
+ghost use Rattle.pw_program.specs.Asking.{period_of, checks_of};
 ghost use Rattle.pw_program.specs.Program.{IsToldOf, script_name};
 
+use crate::asking::{Asked, Asks, Nth};
 use crate::ended::Ran;
 use first_load::{Begun, FirstLoad};
 use kept_output::{KeptOutput, Started};
 use pw_lists::{Items, Text};
-use pw_outside::{Every, Files, Never, Open, Sink, Ticker};
+use pw_outside::{Files, Never, Open, Sink, Ticker};
 use pw_top::{Status, run_words, ticks_of};
 use std::alloc::Global;
 use std::marker::Brand;
@@ -57,7 +59,7 @@ fn run_status<R: Threads + Wait + Sync, F: Files, O: Sink, T: Ticker>(
 ) -> Status
     ensures told { IsToldOf (map string_bytes words.now)
         (outside F.Files O.Sink files.old out.old) (outside F.Files O.Sink files.new out.new)
-        result }
+        (T.ticks ticker.old) (T.ticks ticker.new) result }
     ensures cause { Caused (outside F.Files O.Sink files.old out.old)
         (outside F.Files O.Sink files.new out.new) result }
     ensures usage { IsUsage (command_of (map string_bytes words.now)) result }
@@ -78,7 +80,8 @@ fn run_by<R: Threads + Wait + Sync, F: Files, O: Sink, K: Begun, S: Started, T: 
     requires begun { K.begun ≡ F.held files }
     requires started { S.started ≡ O.given out }
     ensures told { IsToldOf (map string_bytes words.now) (outside F.Files O.Sink files out)
-        (outside F.Files O.Sink result.files result.out) result.status }
+        (outside F.Files O.Sink result.files result.out) (T.ticks ticker.old) (T.ticks ticker.new)
+        result.status }
     ensures cause { Caused (outside F.Files O.Sink files out)
         (outside F.Files O.Sink result.files result.out) result.status }
     ensures usage { IsUsage (command_of (map string_bytes words.now)) result.status }
@@ -100,31 +103,65 @@ fn run_by<R: Threads + Wait + Sync, F: Files, O: Sink, K: Begun, S: Started, T: 
     }
 }
 
-/// Does what the words ask for, with the ticker that they name; may wait.
+// The same, with a ticker that is due at each nth ask.
+fn run_nth<R: Threads + Wait + Sync, F: Files, O: Sink, K: Begun, S: Started, P: Asks>(
+    rt: &R,
+    alloc: Global,
+    words: &[String],
+    files: F,
+    out: O,
+    n: u64,
+) -> (Ran<F, O>, Asked)
+    requires begun { K.begun ≡ F.held files }
+    requires started { S.started ≡ O.given out }
+    requires some { 1 ≤ n }
+    requires period { P.period ≡ n }
+    ensures told { IsToldOf (map string_bytes words.now) (outside F.Files O.Sink files out)
+        (outside F.Files O.Sink result.0.files result.0.out) 0 (checks_of result.1)
+        result.0.status }
+    ensures asked { period_of result.1 ≡ n }
+    ensures cause { Caused (outside F.Files O.Sink files out)
+        (outside F.Files O.Sink result.0.files result.0.out) result.0.status }
+    ensures usage { IsUsage (command_of (map string_bytes words.now)) result.0.status }
+    ensures script { IsReadOf (F.held files) (script_name (map string_bytes words.now))
+        result.0.script }
+    ensures told_text { IsTied (O.given out) (O.given result.0.out) result.0.told }
+{
+    let mut ticker: Nth<P> = Nth::new(n);
+    let ran = run_by::<R, F, O, K, S, Nth<P>>(rt, alloc, words, files, out, &mut ticker);
+    (ran, Asked::Every(ticker.into_every()))
+}
+
+/// Does what the words ask for, with the ticker that they name, and answers that too; may wait.
 pub(crate) fn run_kept<R: Threads + Wait + Sync, F: Files, O: Sink>(
     rt: &R,
     alloc: Global,
     words: &[String],
     files: F,
     out: O,
-) -> Ran<F, O>
+) -> (Ran<F, O>, Asked)
     ensures told { IsToldOf (map string_bytes words.now) (outside F.Files O.Sink files out)
-        (outside F.Files O.Sink result.files result.out) result.status }
+        (outside F.Files O.Sink result.0.files result.0.out) 0 (checks_of result.1)
+        result.0.status }
+    ensures asked { period_of result.1 ≡ ticks_in (command_of (map string_bytes words.now)) }
     ensures cause { Caused (outside F.Files O.Sink files out)
-        (outside F.Files O.Sink result.files result.out) result.status }
-    ensures usage { IsUsage (command_of (map string_bytes words.now)) result.status }
+        (outside F.Files O.Sink result.0.files result.0.out) result.0.status }
+    ensures usage { IsUsage (command_of (map string_bytes words.now)) result.0.status }
     ensures script { IsReadOf (F.held files) (script_name (map string_bytes words.now))
-        result.script }
-    ensures told_text { IsTied (O.given out) (O.given result.out) result.told }
+        result.0.script }
+    ensures told_text { IsTied (O.given out) (O.given result.0.out) result.0.told }
 {
     match ticks_of(words) {
         0 => {
-            let mut ticker = Never::new();
-            run_by::<R, F, O, Brand, Brand, Never>(rt, alloc, words, files, out, &mut ticker)
+            let mut never = Never::new();
+            let ran = run_by::<R, F, O, Brand, Brand, Never>(
+                rt, alloc, words, files, out, &mut never,
+            );
+            (ran, Asked::Never)
         }
         n => {
-            let mut ticker = Every::new(u64::from(n));
-            run_by::<R, F, O, Brand, Brand, Every>(rt, alloc, words, files, out, &mut ticker)
+            let asks = u64::from(n);
+            run_nth::<R, F, O, Brand, Brand, Brand>(rt, alloc, words, files, out, asks)
         }
     }
 }

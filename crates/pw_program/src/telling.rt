@@ -1,14 +1,17 @@
 //! The sentence of a status on the error output.
-ghost use Rattle.std.specs.Prelude.{◌≡◌, map, string_bytes, option_copied};
+ghost use Rattle.std.specs.Prelude.{◌≡◌, map, string_bytes, option_copied, Err, IfOk, OnErr};
+ghost use Rattle.pw_outside.specs.declared.files.FileFail.TheVariants as F;
 ghost use Rattle.fault_messages.specs.Explaining.{explained};
 ghost use Rattle.fault_messages.specs.Message.{words_message};
-ghost use Rattle.pw_program.specs.Program.{IsSaid};
+ghost use Rattle.pw_program.specs.Exit.{word_in};
+ghost use Rattle.pw_program.specs.Program.{shown, IsSaid};
 
 use fault_messages::{explain, words_message};
-use pw_lists::Text;
-use pw_outside::Sink;
+use pw_lists::{Memory, Text};
+use pw_outside::{FileFail, Sink};
 use pw_top::Status;
 use std::alloc::Global;
+use system_files::Unread;
 
 // The bytes that are kept, if they are.
 fn bytes_of(kept: &Option<Text>) -> Option<&[u8]>
@@ -20,7 +23,23 @@ fn bytes_of(kept: &Option<Text>) -> Option<&[u8]>
     }
 }
 
-/// Puts what a status means, or the notes. Where that fails, or memory is short, nothing follows.
+// Puts a text that was made. Nothing is put where there was no memory for it.
+fn put_made<E: Sink>(
+    alloc: Global,
+    made: Result<Text, Memory>,
+    errors: &mut E,
+) -> Result<(), FileFail>
+    ensures ok { IfOk made (λ text. IsSaid text (shown E.Sink errors.old) (shown E.Sink errors.new)
+        result) }
+    ensures err { OnErr made ((result ≡ Err F.Memory) × (errors.new ≡ errors.old)) }
+{
+    match made {
+        Ok(text) => errors.put(alloc, text.as_slice()),
+        Err(_memory) => Err(FileFail::Memory),
+    }
+}
+
+/// Puts what a status means, or the notes. Nothing is put where it answers `Memory`.
 pub(crate) fn tell<E: Sink>(
     alloc: Global,
     words: &[String],
@@ -28,22 +47,33 @@ pub(crate) fn tell<E: Sink>(
     script: &Option<Text>,
     told: &Option<Text>,
     errors: &mut E,
-)
+) -> Result<(), FileFail>
     ensures { IsSaid (explained status.now (map string_bytes words.now) script.now told.now)
-        (E.faults errors.old) (E.faults errors.new) (E.given errors.old) (E.given errors.new) }
+        (shown E.Sink errors.old) (shown E.Sink errors.new) result }
 {
-    if let Ok(text) = explain(alloc, status, words, bytes_of(script), bytes_of(told)) {
-        let _ = errors.put(alloc, text.as_slice());
+    let made = explain(alloc, status, words, bytes_of(script), bytes_of(told));
+    put_made(alloc, made, errors)
+}
+
+// The word at fault.
+fn word_in(unread: Unread) -> Option<u32>
+    ensures { result ≡ word_in unread }
+{
+    match unread {
+        Unread::NoText { word } => Some(word),
+        Unread::Memory => None,
     }
 }
 
 /// Puts what is wrong with words that could not be read: the first that is no text, or that memory
 /// was short.
-pub(crate) fn tell_words<E: Sink>(alloc: Global, word: Option<u32>, errors: &mut E)
-    ensures { IsSaid (words_message word) (E.faults errors.old) (E.faults errors.new)
-        (E.given errors.old) (E.given errors.new) }
+pub(crate) fn tell_words<E: Sink>(
+    alloc: Global,
+    unread: Unread,
+    errors: &mut E,
+) -> Result<(), FileFail>
+    ensures { IsSaid (words_message (word_in unread)) (shown E.Sink errors.old)
+        (shown E.Sink errors.new) result }
 {
-    if let Ok(text) = words_message(alloc, word) {
-        let _ = errors.put(alloc, text.as_slice());
-    }
+    put_made(alloc, words_message(alloc, word_in(unread)), errors)
 }
