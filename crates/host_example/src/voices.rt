@@ -14,6 +14,7 @@ const RATE: u32 = 48_000;
 // The wave of a voice.
 fn wave_of(alloc: Global, samples: &[i16]) -> Result<Wav, Memory>
     ensures wave { IfOk result (λ wave. wave ≡ mono samples.now) }
+    ensures form { IfOk result HasForm }
 {
     let samples = Items::from_slice(alloc, samples)?;
     Ok(Wav {
