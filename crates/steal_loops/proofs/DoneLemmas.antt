@@ -17,7 +17,8 @@ use Rattle.steal_shelf.specs.Seats.{cells_of}
 use Rattle.steal_loops.specs.declared.preparing.Prepared.{Prepared}
 use Rattle.steal_loops.specs.declared.shared.Shared.{Shared}
 use Rattle.steal_loops.specs.working.Cells.{AreCells, IsFinished, AreCollected}
-use Rattle.steal_loops.specs.working.Crews.{HasNode, IsPrepared, CanStart, CanLead}
+use Rattle.steal_loops.specs.working.Crews.{HasNode, IsPrepared}
+use Rattle.steal_loops.specs.working.CrewRun.{CanStart, CanLead}
 
 -- nothing is collected; and one cell more
 pub none_collected : (shared : Shared) (list : List LoopState) → list ≡ [] → AreCollected shared 0 list

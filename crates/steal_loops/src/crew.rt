@@ -33,7 +33,7 @@ pub(crate) struct EndedCells {
 
 impl Work<Taker, u64> for Shared {
     ghost use Rattle.std.specs.Prelude.{⊤};
-    ghost use Rattle.steal_loops.specs.working.Crews.{CanStart};
+    ghost use Rattle.steal_loops.specs.working.CrewRun.{CanStart};
 
     ghost number_of = { λ taker. taker.way.number };
 
@@ -71,7 +71,7 @@ impl Crew<Taker, u64> for Shared {
     ghost use Rattle.crew_run.specs.Dealt.{AreDealt};
     ghost use Rattle.steal_loops.specs.declared.crew.LeadState.{LeadState};
     ghost use Rattle.steal_loops.specs.declared.taker.Taker.{Taker};
-    ghost use Rattle.steal_loops.specs.working.Crews.{CanStart, CanLead, HasLedRun, HaveEnded};
+    ghost use Rattle.steal_loops.specs.working.CrewRun.{CanStart, CanLead, HasLedRun, HaveEnded};
 
     type Lead = LeadState;
 

@@ -1,7 +1,7 @@
 -- The threads of a run before its first cycle.
 -- Source: PipeWire's documentation, "Data loops"; that any thread runs any node is this project's
 -- own.
-use Rattle.std.specs.Prelude.{◌≡◌, ◌⊎◌, ℕ, ◌<◌, ◌≤◌, List, [], ◌∷◌, ◌++◌, All, Contains, length, map, slice_index_or}
+use Rattle.std.specs.Prelude.{◌≡◌, ◌⊎◌, ℕ, ◌<◌, List, [], ◌∷◌, ◌++◌, All, Contains, length, map, slice_index_or}
 use Rattle.std.specs.List.{enumerate_from}
 use Rattle.pw_graph.specs.declared.plan.Plan.{Plan}
 use Rattle.wav_files.specs.declared.wav.WavIn.{WavIn}
@@ -11,20 +11,14 @@ use Rattle.data_loop.specs.declared.loop_state.LoopState.{LoopState}
 use Rattle.data_loop.specs.Loops.{plan_of}
 use Rattle.graph_run.specs.Assignment.{cell_number, cell_count}
 use Rattle.graph_run.specs.Boards.{driver_of}
-use Rattle.graph_run.specs.Leads.{HaveLed, HaveLooked}
 use Rattle.graph_run.specs.Loops.{AreLoopsOf}
 use Rattle.graph_run.specs.LoopsOnPlan.{IsReady, HasDrivers, AreReady, AreFirstLeads}
-use Rattle.graph_run.specs.Outcomes.{AreDone}
 use Rattle.graph_run.specs.Seating.{epoch_board, seated_by}
-use Rattle.graph_run.specs.Threads.{HasRun}
 use Rattle.steal_shelf.specs.Seats.{cells_of}
-use Rattle.steal_loops.specs.declared.crew.EndedCells.{EndedCells}
-use Rattle.steal_loops.specs.declared.crew.LeadState.{LeadState}
 use Rattle.steal_loops.specs.declared.leading.Driving.{Driving}
 use Rattle.steal_loops.specs.declared.opening.Opened.{Opened}
 use Rattle.steal_loops.specs.declared.preparing.Prepared.{Prepared}
 use Rattle.steal_loops.specs.declared.shared.Shared.{Shared}
-use Rattle.steal_loops.specs.declared.taker.Taker.{Taker}
 use Rattle.steal_loops.specs.working.Cells.{AreCells}
 use Rattle.steal_loops.specs.working.Takers.{IsWorker, IsDriverTaker}
 
@@ -72,33 +66,3 @@ pub record IsPrepared (plan : Plan) (waves : List WavIn) (loops : ℕ)
   pub count : length r.workers ≡ loops
   pub nodes : (n : ℕ) → n < length plan.nodes
       → HasNode r.driving.own (cells_of r.shared.shelf) n
-
-module _ (shared : Shared) where
-  -- BEFORE THE RUN: a worker of its cells
-  pub record CanStart (t : Taker) : Type 0 where
-    pub cells : AreCells shared
-    pub worker : IsWorker shared t
-
-  -- the driver's thread, and room for all cells and its own loop
-  pub record CanLead (l : LeadState) : Type 0 where
-    pub cells : AreCells shared
-    pub can_drive : CanDrive shared l.driving
-    pub nodes : (n : ℕ) → n < length shared.score.plan.value.nodes
-        → HasNode l.driving.own (cells_of shared.shelf) n
-    pub bare : l.done.list ≡ []
-    pub room : length (cells_of shared.shelf) < l.done.spare
-
-  -- LED: the driver's own loop has done all epochs, and the drivers' seats have ended all boards
-  pub record HasLedRun (l : LeadState) (led : LeadState) (m n : ℕ) : Type 0 where
-    pub own : HasRun l.driving.own led.driving.own
-    pub drivers : HaveLed (length shared.boards) shared.boards l.driving.drivers
-        led.driving.drivers
-    pub looked : HaveLooked l.driving.drivers led.driving.drivers m n
-    pub taker : IsDriverTaker shared led.driving.taker
-    pub done : led.done ≡ l.done
-
-  -- AFTER IT all cells have done so too
-  pub record HaveEnded (l : LeadState) (e : EndedCells) (m n : ℕ) : Type 0 where
-    pub done : AreDone shared.score.plan.value shared.score.waves.value e.done
-    pub drivers : HaveLed (length shared.boards) shared.boards l.driving.drivers e.drivers
-    pub looked : HaveLooked l.driving.drivers e.drivers m n
