@@ -7,6 +7,6 @@ use Rattle.host_example.proofs.voices.waves_of.Given as goal
 
 abbrev pub invariant-loop-samples : goal.invariant-loop-samples
 invariant-loop-samples l = record {
-  waves : l.waves ≡ map mono (take l.samples-index (map (λ v. v.now) l.voices));
+  waves : l.waves ≡ map mono (map (λ v. v.now) (take l.samples-index l.voices));
   forms : All HasForm l.waves;
 }
