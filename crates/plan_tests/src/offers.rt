@@ -60,8 +60,9 @@ fn formats_in(alloc: Global, offers: &[&[u8]]) -> Option<Items<Format>>
     let mut formats = Items::new(alloc);
     for bytes in offers {
         let format = format_in(alloc, bytes)?;
-        if formats.push(format).is_err() {
-            return None;
+        match formats.push(format) {
+            Ok(()) => {}
+            Err(_memory) => return None,
         }
     }
     Some(formats)
