@@ -13,25 +13,33 @@ use std::test::Fail;
 use std::thread::Threads;
 use wav_files::Outcome;
 
-/// Whose start is refused.
+/// Refuses the start of the part of one place, or that of each.
 #[derive(Drop)]
-enum Refusing {
-    /// That of the part of one place.
-    One(u32),
-    /// That of each part.
-    All,
+struct Refusing {
+    each: bool,
+    place: u32,
+}
+
+impl Refusing {
+    fn one(place: u32) -> Refusing {
+        Refusing { each: false, place }
+    }
+
+    fn all() -> Refusing {
+        Refusing {
+            each: true,
+            place: 0,
+        }
+    }
 }
 
 impl Starts for Refusing {
-    ghost use Rattle.group_tests.specs.Refusals.{is_refused};
+    ghost use Rattle.std.specs.Prelude.{◌==◌, ◌||◌};
 
-    ghost refused = { is_refused };
+    ghost refused = { λ s number. s.each || (number == s.place) };
 
     fn refuses(&self, number: u32) -> bool {
-        match self {
-            Refusing::One(place) => number == *place,
-            Refusing::All => true,
-        }
+        self.each || number == self.place
     }
 }
 
@@ -142,11 +150,11 @@ fn four_run_all_the_same<R: Threads + Wait + Sync>(rt: &R, alloc: Global) -> boo
         return false;
     };
     for place in 0..4 {
-        if !runs_all_the_same(rt, alloc, &group, &FOUR_PARTS, &Refusing::One(place)) {
+        if !runs_all_the_same(rt, alloc, &group, &FOUR_PARTS, &Refusing::one(place)) {
             return false;
         }
     }
-    runs_all_the_same(rt, alloc, &group, &FOUR_PARTS, &Refusing::All)
+    runs_all_the_same(rt, alloc, &group, &FOUR_PARTS, &Refusing::all())
 }
 
 #[test]
@@ -172,10 +180,10 @@ fn squares_meet<R: Threads + Wait + Sync>(
 
 // Whether a refused part does not meet the first, nor another refused one, and the others meet.
 fn refused_run_after_the_first<R: Threads + Wait + Sync>(rt: &R, alloc: Global) -> bool {
-    squares_meet(rt, alloc, &Refusing::One(1), 0, 1) == Some(false)
-        && squares_meet(rt, alloc, &Refusing::One(1), 0, 2) == Some(true)
-        && squares_meet(rt, alloc, &Refusing::One(3), 1, 2) == Some(true)
-        && squares_meet(rt, alloc, &Refusing::All, 1, 2) == Some(false)
+    squares_meet(rt, alloc, &Refusing::one(1), 0, 1) == Some(false)
+        && squares_meet(rt, alloc, &Refusing::one(1), 0, 2) == Some(true)
+        && squares_meet(rt, alloc, &Refusing::one(3), 1, 2) == Some(true)
+        && squares_meet(rt, alloc, &Refusing::all(), 1, 2) == Some(false)
 }
 
 #[test]
