@@ -9,7 +9,7 @@ use std::alloc::Global;
 use std::test::Fail;
 
 #[test]
-fn the_word_of_a_start(rt: HostRuntime) {
+fn a_start_is_packed_into_its_word(rt: HostRuntime) {
     let start = Event::Start { cycle: 1, node: 2 };
     assert_eq!(rt; event_word(&start), 530);
     let tick = Event::Tick { cycle: 7, late: 5 };

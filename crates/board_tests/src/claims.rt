@@ -245,7 +245,7 @@ fn begins_so(alloc: Global, checked: bool) -> bool {
 }
 
 #[test]
-fn words_of_one_begin(rt: HostRuntime) -> Result<(), Fail> {
+fn a_begin_and_two_claims_write_their_words(rt: HostRuntime) -> Result<(), Fail> {
     assert!(rt; begins_so(rt.alloc(), false));
     Ok(())
 }

@@ -35,7 +35,7 @@ fn stops_at(at: u32) -> Finding {
 const LEGAL: Finding = Finding::Events(Verdict::Legal);
 
 #[test]
-fn traces_legal_illegal_and_cut_short(rt: HostRuntime) -> Result<(), Fail> {
+fn traces_are_legal_or_stop_at_their_first_illegal_event(rt: HostRuntime) -> Result<(), Fail> {
     let whole =
         "begin 0\nstart 0 s\nfinish 0 s\nstart 0 o\nfinish 0 o\nstart 0 p\nfinish 0 p\nend 0\n";
     let turned =

@@ -135,7 +135,7 @@ fn is_refused<R: Threads + Wait + Sync + AllocGlobal>(rt: &R) -> bool {
 }
 
 #[test]
-fn words_outside_the_grammar(rt: HostRuntime) {
+fn words_outside_the_grammar_are_refused(rt: HostRuntime) {
     assert_eq!(rt; usage_unlike(&rt, OF_RUN, SURE), None);
     assert_eq!(rt; usage_unlike(&rt, OF_PODS, SURE), None);
     assert_eq!(rt; usage_unlike(&rt, OF_SOAK, FAULTS), None);

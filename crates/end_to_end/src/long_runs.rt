@@ -67,7 +67,7 @@ fn four_minutes_are_so<R: Threads + Wait + Sync + AllocGlobal>(rt: &R) -> bool {
 }
 
 #[test]
-fn four_minutes_of_stereo(rt: HostRuntime) {
+fn four_minutes_of_stereo_are_stored_whole(rt: HostRuntime) {
     assert!(rt; four_minutes_are_so(&rt));
 }
 

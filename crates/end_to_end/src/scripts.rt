@@ -85,6 +85,6 @@ fn script_unlike<R: Threads + Wait + Sync + AllocGlobal>(
 }
 
 #[test]
-fn script_faults_by_line(rt: HostRuntime) {
+fn script_faults_are_told_by_line(rt: HostRuntime) {
     assert_eq!(rt; script_unlike(&rt, REFUSED), None);
 }

@@ -337,7 +337,7 @@ fn first_of_bad(alloc: Global) -> Option<usize> {
 }
 
 #[test]
-fn each_fault_has_its_why(rt: HostRuntime) {
+fn each_faulty_text_is_refused_by_its_cause(rt: HostRuntime) {
     assert_eq!(rt; first_of_bad(rt.alloc()), None);
 }
 

@@ -180,7 +180,7 @@ fn the_last_line_may_lack_its_line_feed(rt: HostRuntime) -> Result<(), Fail> {
 }
 
 #[test]
-fn a_line_that_is_no_event(rt: HostRuntime) -> Result<(), Fail> {
+fn a_line_that_is_no_event_is_found_by_its_number(rt: HostRuntime) -> Result<(), Fail> {
     let names = three_names(rt.alloc())?;
     for (text, line) in [
         (b"\n".as_slice(), Some(1)),

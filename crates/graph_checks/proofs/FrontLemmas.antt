@@ -1,4 +1,5 @@
--- Laws of `specs/working/HistoryFronts.antt`: a row of events is cut after its first End, and fronts follow one another.
+-- Laws of pw_graph's `specs/working/HistoryFronts.antt`: a row of events is cut after its first
+-- End, and fronts follow one another.
 use Rattle.std.proofs.Common.{◌≡◌, ℕ, ◌+◌, ◌<◌, ◌≤◌, Bool, true, false, cond, not, List, [], ◌∷◌, ◌++◌, map, length, get_or}
 use Rattle.std.proofs.Common.{take, drop, refl, sym, ap, subst, ◌∙◌, arith, ltb, Some, None, append_assoc, append-nil, length-append}
 use Rattle.std.specs.Prelude.{◌==◌, IsTrue, All, ◌↔◌, MatchOption}
@@ -142,7 +143,7 @@ module _ (front next : List (Shape × ℕ)) (es mid : List Event) (h : LeavesOve
         ((h.same (next ++ more)).0 (subst (λ cs. AreJoined cs es) (append_assoc front next more) j));
   }
 
--- what is not a front begins none
+-- what is no front is the beginning of no longer one
 pub no_front_more : (front next : List (Shape × ℕ)) (es : List Event) → IsNoFront front es → IsNoFront (front ++ next) es
 no_front_more front next es h = record {
   never = λ more j. h.never (next ++ more)

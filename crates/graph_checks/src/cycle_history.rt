@@ -42,7 +42,7 @@ fn find_start(events: &[Event], cycle: u64, node: u32) -> Option<usize>
     events.iter().position(|e| is_start(e, cycle, node))
 }
 
-// Where a node's Start is; past the end where there is none.
+// Where a node's Start is; past the end where it has no Start.
 #[tactic(auto, using(pw_graph::proofs::HistoryLemmas::place_or_end))]
 fn start_place(events: &[Event], cycle: u64, node: u32) -> usize
     ensures { result ≡ start_place events.now cycle node }
@@ -57,7 +57,7 @@ fn find_finish(events: &[Event], cycle: u64, node: u32) -> Option<usize>
     events.iter().position(|e| is_finish(e, cycle, node))
 }
 
-// Where a node's Finish is; past the end where there is none.
+// Where a node's Finish is; past the end where it has no Finish.
 #[tactic(auto, using(pw_graph::proofs::HistoryLemmas::place_or_end))]
 fn finish_place(events: &[Event], cycle: u64, node: u32) -> usize
     ensures { result ≡ finish_place events.now cycle node }
@@ -72,7 +72,7 @@ fn find_tick(events: &[Event]) -> Option<usize>
     events.iter().position(is_tick)
 }
 
-// Where the Tick is; past the end where there is none.
+// Where the Tick is; past the end where there is no Tick.
 #[tactic(auto, using(pw_graph::proofs::HistoryLemmas::place_or_end))]
 fn tick_place(events: &[Event]) -> usize
     ensures { result ≡ tick_place events.now }

@@ -5,14 +5,14 @@ ghost use Rattle.pw_graph.specs.Pools.{AreAlike, IsPooledShape};
 use crate::soundness::is_sound_shape;
 use pw_graph::{Shape, ShapeLink};
 
-// Whether two links that come from one port have the same channels.
+// Whether two links, if they leave one port, have the same channels.
 fn are_alike(k: &ShapeLink, l: &ShapeLink) -> bool
     ensures { IsTrue result ↔ AreAlike k.now l.now }
 {
     k.from != l.from || k.channels == l.channels
 }
 
-// Whether a link has the channels of each of these that comes from its port.
+// Whether a link has the channels of each of these that leaves its port.
 fn is_like(earlier: &[ShapeLink], link: &ShapeLink) -> bool
     ensures { IsTrue result ↔ All (λ k. AreAlike k link.now) earlier.now }
 {

@@ -1,4 +1,5 @@
--- Lemmas on what is one alone: an epoch, a line, a plan, a rehearsal, a partition, the parts.
+-- Lemmas on what there is only one of: an epoch, a line, a plan, a rehearsal, a partition, the
+-- parts.
 pub mod OneEpochLemmas
 pub mod OneStepLemmas
 pub mod OnePlanLemmas

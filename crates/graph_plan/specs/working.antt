@@ -1,4 +1,4 @@
--- Why plans are right: what a graph remembers and meets from line to line, in the whole and in
+-- What makes plans right: what a graph remembers and meets from line to line, in the whole and in
 -- parts. Source: this project's own.
 pub mod Ahead
 pub mod Members

@@ -1,8 +1,8 @@
-//! Why there is no plan.
+//! The causes of a script that has no plan.
 
 use pw_lists::Which;
 
-/// Why there is no plan.
+/// The cause of a script that has no plan.
 #[derive(Clone, Copy, Debug, PartialEq, Eq, Drop)]
 pub enum PlanFault {
     /// The first line that passes a limit, by its number, and which limit it is.

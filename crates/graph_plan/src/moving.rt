@@ -12,8 +12,8 @@ use pw_lists::{Items, Memory, Which};
 use std::alloc::Global;
 use wav_files::WavIn;
 
-/// What a line would make of the parts: an epoch of each, or none, and the sums of all with them,
-/// each of which stays at the greatest number of 64 bits.
+/// What a line would make of the parts: an epoch of each, or no epoch, and the sums of all with
+/// them, each of which stays at the greatest number of 64 bits.
 #[derive(Drop)]
 pub(crate) struct Ahead {
     pub(crate) epochs: Items<Option<Epoch>>,

@@ -36,7 +36,7 @@ pub first_word : (xs : List ℕ) → 0 < length (take (position_or_len is_blank 
 first_word xs some = let long : nat_lt 0 (length (take (position_or_len is_blank xs) xs)) ≡ true = lt-ltb 0 _ some in
     rw (first_piece is_blank xs) (rw long (rw (words_after xs) refl))
 
--- after the gap there is no word: the line has none
+-- after the gap there is no word: the line has no word
 pub no_word : (xs : List ℕ) → length (take (position_or_len is_blank (drop (prefix_len is_blank xs) xs)) (drop (prefix_len is_blank xs) xs))
     ≡ 0 → words_of xs ≡ []
 no_word [] none = refl

@@ -13,7 +13,7 @@ use Rattle.graph_script.specs.Ranges.{HasNodes}
 use Rattle.graph_script.specs.Making.{grown, all_grown, NamesMade}
 use Rattle.graph_script.proofs.FitLemmas.{added, IsFit}
 
--- a line makes the next node or none, and its nodes are there then
+-- a line makes the next node or no node, and its nodes are there then
 abbrev pub MakesNext : ℕ → Command → Type 0
 MakesNext count command = IfSome (made_by command) (λ m. m.0 ≡ count) × HasNodes (grown count command) command
 

@@ -1,5 +1,5 @@
--- Checked values: a value, or why its line is at fault, found step by step. Source: the causes are
--- this project's own.
+-- Checked values: a value, or the cause of its line's fault, found step by step. Source: the causes
+-- are this project's own.
 use Rattle.std.specs.Prelude.{ℕ, List, [], ◌∷◌, length, ok_or, Result, Ok, Err, nat_le, ℤ}
 use Rattle.std.specs.Prelude.{if◌then◌else◌}
 use Rattle.graph_script.specs.declared.fault.ScriptWhy.{ScriptWhy}

@@ -14,7 +14,7 @@ use Rattle.graph_script.specs.Lexical.{is_allowed, lines_of, words_of, say_nothi
 use Rattle.graph_script.specs.Checked.{checked_map}
 use Rattle.graph_script.specs.Commands.{meaning_of_words}
 
--- the meaning of a line by the lines before it: what it says, or nothing; or why it has none
+-- the meaning of a line by the lines before it: what it says, or nothing; or the cause of its fault
 unfoldable pub meaning_of_line : Reading → List ℕ → Result (Option Said) ScriptWhy
 meaning_of_line reading line =
     if not (list_all is_allowed line) then Err W.Byte

@@ -13,7 +13,7 @@ use Rattle.graph_script.specs.Checked.{Checked, ◌>>=◌, no_args, one_arg, two
 use Rattle.graph_script.specs.Nodes.{node_arg, kind_at, may_drive}
 use Rattle.graph_script.specs.Earlier.{is_linked, saying, making_epoch}
 
--- a quantum comes before every other command
+-- a quantum is before every other command
 abbrev pub first_only : List Line → Command → Checked Said
 first_only [] command = saying command
 first_only (line ∷ lines) command = Err W.QuantumLate

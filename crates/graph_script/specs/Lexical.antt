@@ -24,7 +24,7 @@ lines_of bytes = slice_split is_line_feed bytes
 abbrev pub words_of : List ℕ → List (List ℕ)
 words_of line = filter (λ word. nat_lt 0 (length word)) (slice_split is_blank line)
 
--- whether words say nothing: there is none, or the first begins with a number sign
+-- whether words say nothing: there is no word, or the first begins with a number sign
 abbrev pub say_nothing : List (List ℕ) → Bool
 say_nothing [] = true
 say_nothing (word ∷ words) = slice_index word 0 == 0x23

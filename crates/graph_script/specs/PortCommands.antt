@@ -11,7 +11,7 @@ use Rattle.graph_script.specs.Checked.{Checked, ◌>>=◌, two_args, three_args,
 use Rattle.graph_script.specs.Nodes.{port_arg, output_called, input_called, endpoint_arg}
 use Rattle.graph_script.specs.Earlier.{is_linked, saying}
 
--- a port and a file: an offer comes before the links of its node
+-- a port and a file: an offer is before the links of its node
 abbrev pub port_and_file : Reading → List (List ℕ) → Checked (PortId × List ℕ)
 port_and_file reading words = do
   args ← three_args words

@@ -1,4 +1,4 @@
-//! Why a text is not a script.
+//! What is wrong with a text that is no script.
 ghost use Rattle.std.specs.Prelude.{◌≡◌};
 ghost use Rattle.graph_script.specs.Faults.{why_number};
 
@@ -21,7 +21,7 @@ pub enum ScriptWhy {
     NameTaken,
     /// No node has the name.
     NameUnknown,
-    /// The node's kind has no port of this name, or none on this side of a link.
+    /// The node's kind has no port of this name, or not on this side of a link.
     PortUnknown,
     /// A command is on a line before the quantum.
     QuantumLate,

@@ -7,8 +7,8 @@ use pw_graph::Kind;
 use pw_lists::Memory;
 use std::alloc::Global;
 
-/// The kind of the node that a command makes, or `None` where it makes none. Takes memory for the
-/// list of a map only.
+/// The kind of the node that a command makes, or `None` where it makes no node. Takes memory for
+/// the list of a map only.
 pub fn kind_made(alloc: Global, command: &Command) -> Result<Option<Kind>, Memory>
     ensures { IfOk result (λ kind. kind ≡ option_map (λ m. m.1) (made_by command.now)) }
 {

@@ -12,7 +12,7 @@ use crate::saying::said_by;
 use pw_lists::Memory;
 use std::alloc::Global;
 
-// What a line says, if anything, or why it has no meaning.
+// What a line says, if anything, or the cause of its fault.
 #[tactic(auto, unfolding(crate::specs::Grammar::meaning_of_line))]
 fn meaning_of_line(
     alloc: Global,

@@ -55,7 +55,7 @@ IsLinkOutcome s nodes from to Loop = (are_linked s.made from to ≡ false)
     × ((from.node ≡ to.node) ⊎ IsSynchronousLoop s from to)
 IsLinkOutcome s nodes from to linked = IsNewLink s from to × IsSettled s nodes from to linked
 
--- a port takes a format where it has none, if it may
+-- a port without a format takes one, if it may
 abbrev pub given : Format → PortState → PortState
 given format s = record s { format = option_or s.format (Some format) }
 

@@ -23,7 +23,7 @@ use std::alloc::Global;
 pub enum Negotiated {
     /// The common format, fixed.
     Format(Format),
-    /// None: first at this key.
+    /// No common format: first at this key.
     NoFormat { key: u32 },
 }
 

@@ -38,7 +38,7 @@ pub enum Linked {
     Many,
 }
 
-/// Gives a port a format where it has none. Takes no memory.
+/// Gives a port without a format this one. Takes no memory.
 fn give(ports: &mut Ports, port: PortId, format: Format)
     requires port { IsPort ports.old port }
     requires format { AreSoundNodes ports.old → AtPort ports.old port (MayBeGiven format) }
@@ -75,8 +75,8 @@ impl Links {
         self.is_synchronous(&Link { from, to }) && is_reachable(self, to.node, from.node)
     }
 
-    /// Makes a link, and gives its format to each of its ports that has none. The copies and the
-    /// room for the link are taken before the first change.
+    /// Makes a link, and gives its format to each of its ports without one. The copies and the room
+    /// for the link are taken before the first change.
     fn make(&mut self, ports: &mut Ports, link: Link, format: &Format) -> Result<(), Memory>
         requires few { length self.old.made < links_limit }
         requires from { IsPort ports.old link.from }
@@ -157,16 +157,16 @@ impl Links {
         self.settle_link(ports, from, to, count)
     }
 
-    /// Makes a link from an output port to an input port, or says why not: the first of these that
-    /// holds decides.
+    /// Makes a link from an output port to an input port, or says what forbids it: the first of
+    /// these that holds decides.
     ///
     /// `Twice`: it is there. `Loop`: both ports are of one node; or the link would be synchronous,
     /// neither of its nodes being marked, and a walk along synchronous links leads from the input's
-    /// node to the output's. `NoFormat`: the output port offers nothing, else the input port does,
-    /// else their offers clash, first at this key. `NoBuffers`:
-    /// their counts of buffers have no number in common. `Many`: 256 links are there. `Made`: the
-    /// format is the common one, fixed, and each of the two ports that has none takes it; the
-    /// number of buffers is the pick of what both counts have in common, the output's first.
+    /// node to the output's. `NoFormat`: the output port offers nothing, else the input port offers
+    /// nothing, else their offers clash, first at this key. `NoBuffers`: their counts of buffers
+    /// have no number in common. `Many`: 256 links are there. `Made`: the format is the common one,
+    /// fixed, and each of the two ports without one takes it; the number of buffers is the pick of
+    /// what both counts have in common, the output's first.
     ///
     /// After `Memory` and any answer but `Made` all is as before. Takes time linear in the nodes
     /// and the links, and that of the common format.

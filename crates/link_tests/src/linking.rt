@@ -67,7 +67,7 @@ fn narrowed_does(
 }
 
 #[test]
-fn links_of_two_gains(rt: HostRuntime) -> Result<(), Fail> {
+fn two_gains_are_linked_once_and_in_no_loop(rt: HostRuntime) -> Result<(), Fail> {
     let lines = [
         (Line::Link((0, 1), (1, 0)), Did::Made(48000, 2, 2)),
         (Line::Link((1, 1), (0, 0)), Did::Loop),

@@ -13,6 +13,8 @@ mod crew;
 #[cfg(test)]
 mod cycle_table;
 #[cfg(test)]
+mod meeting;
+#[cfg(test)]
 mod queues;
 #[cfg(test)]
 mod refusals;

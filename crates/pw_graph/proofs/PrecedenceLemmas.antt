@@ -1,7 +1,6 @@
--- Laws of `specs/Dependencies.antt`: required counts are those of the dependencies, targets and dependencies are inverse, and in a sound
--- shape
--- an order rises from each node to those that it precedes, so that no walk along links that are not
--- delayed leads back.
+-- Laws of `specs/Dependencies.antt`: required counts are those of the dependencies, targets and
+-- dependencies are inverse, and in a sound shape an order rises from each node to those that it
+-- precedes, so that no walk along links that are not delayed leads back.
 use Rattle.std.proofs.Common.{◌≡◌, ℕ, zero, suc, ◌<◌, ◌≤◌, ◌==◌, ◌&&◌, ◌||◌, ◌↔◌, inl, inr, Bool, true, false, cond, not}
 use Rattle.std.proofs.Common.{List, [], ◌∷◌, length, get_or, refl, sym, ◌∙◌, ap, subst, arith}
 use mathlib.Core.Logic.{dite}
@@ -83,7 +82,7 @@ module _ (shape : Shape) (h : HasOrder shape.links) where
       let to : h.rank a.1.to.node ≡ h.rank n = ap h.rank ((Decides-eqb _ _).0 q.1) in
       omega arith
 
-  -- each node comes after what precedes it
+  -- each node is after what precedes it
   pub precedence_rises : (m n : ℕ) → Precedes shape m n → precedence_rank m < precedence_rank n
   precedence_rises m n p =
       let low : precedence_rank m ≡ h.rank m = at_follower m p.follower in
@@ -111,7 +110,7 @@ module _ (shape : Shape) (h : HasOrder shape.links) where
   pub no_walk_returns : (more n : ℕ) → ¬ Walks shape more n n
   no_walk_returns more n w = let t = walk_rises more n n w in absurd (omega arith)
 
--- in a sound shape each node comes after what precedes it, in some order
+-- in a sound shape each node is after what precedes it, in some order
 pub sound_order : (shape : Shape) → IsSoundShape shape → (rank : ℕ → ℕ) × ((m n : ℕ) → Precedes shape m n → rank m < rank n)
 sound_order shape h = (precedence_rank shape h.links.order, precedence_rises shape h.links.order)
 

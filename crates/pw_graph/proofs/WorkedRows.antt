@@ -1,5 +1,5 @@
--- The definitions at work: words of a board at the start, words of events, limits at their edges, forms that do not
--- fit a kind, bytes of blocks; by computation only.
+-- The definitions at work: words of a board at the start, words of events, limits at their edges,
+-- forms that do not fit a kind, bytes of blocks; by computation only.
 use Rattle.std.proofs.Common.{◌≡◌, ℕ, ◌<◌, true, false, List, [], ◌∷◌, map, ℤ, pos, refl, arith}
 use Rattle.pw_graph.specs.declared.ids.PortId.{PortId}
 use Rattle.pw_graph.specs.declared.event.Event.TheVariants.{Begin, Finish, Tick, End}
@@ -36,8 +36,9 @@ shape quantum first cycles nodes links = record {
   links = links;
 }
 
--- WORDS AT THE START: one cycle of two frames from node 0 to node 1 over a delayed link of one buffer, which has two
--- blocks. In order: the ticket, pending, status, two areas, a late set, nine events, and each block with its readers
+-- WORDS AT THE START: one cycle of two frames from node 0 to node 1 over a delayed link of one
+-- buffer, which has two blocks. In order: the ticket, pending, status, two areas, a late set, nine
+-- events, and each block with its readers
 abbrev late_pair : ℕ → Shape
 late_pair first = shape 2 first 1 (0 ∷ 1 ∷ 63 ∷ []) (late (link (port 0 0) (port 1 0) 1 1) ∷ [])
 

@@ -40,7 +40,7 @@ abbrev pub targets_of : Shape → ℕ → List ℕ
 targets_of shape m = filter (λ n. not (n == shape.driver) && waits shape n m) (nodes_of shape)
     ++ shape.driver ∷ []
 
--- PRECEDES: in each cycle, the Finish of m comes before the Start of n; so no node waits for the
+-- PRECEDES: in each cycle, the Finish of m is before the Start of n; so no node waits for the
 -- driver's own work
 pub record Precedes (shape : Shape) (m n : ℕ) : Type 0 where
   pub depends : IsDependency shape m n

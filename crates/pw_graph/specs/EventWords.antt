@@ -1,5 +1,5 @@
--- Event words: how an event is stored in one word of 64 bits, 0 where none is stored yet, and what
--- is read back from one.
+-- Event words: how an event is stored in one word of 64 bits, 0 where no event is stored yet, and
+-- what is read back from one.
 -- Source: this project's own numbers; no public standard has them.
 use Rattle.std.specs.Prelude.{◌≡◌, ℕ, ◌+◌, ◌*◌, ◌/◌, ◌%◌, ◌^◌, ◌<◌, ◌≤◌, ◌==◌, if◌then◌else◌}
 use Rattle.pw_lists.specs.Limits.{dummy_node}

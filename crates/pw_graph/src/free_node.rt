@@ -1,5 +1,4 @@
-//! The node that may come next in an order: a remaining one, that no other remaining one
-//! precedes.
+//! The node that may be next in an order: a remaining one that no other remaining one precedes.
 ghost use Rattle.std.specs.Prelude.{◌≡◌, ℕ, false, MatchOption, IfSome, slice_index_or, length};
 ghost use Rattle.pw_graph.specs.LinkOrder.{is_blocked, IsStuck, IsFree, AreBlocked};
 

@@ -15,7 +15,7 @@ pub enum Loaded {
     TooLong,
 }
 
-/// Why a call of the outside gave nothing.
+/// How a call of the outside failed.
 #[derive(Clone, Copy, Debug, PartialEq, Eq, Drop)]
 pub enum FileFail {
     Failed,

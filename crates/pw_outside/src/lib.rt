@@ -1,9 +1,9 @@
-//! The outside as traits, and objects that stand in for it in tests.
+//! The outside as traits, and objects that take its place in tests.
 //!
 //! `Files` loads and stores by name, a `Sink` takes the printed text, a `Ticker` says when a late
 //! check is due, and a `Gate` is entered by each node before it works. The objects of `in_memory`
-//! hold their files and their text in memory: `MemFiles` and `MemSink` fail at the calls that they
-//! are told, `SureFiles` and `SureSink` never.
+//! hold their files and their text in memory: `MemFiles` and `MemSink` fail at the calls that a
+//! test names, `SureFiles` and `SureSink` never.
 #![tactic(auto)]
 
 mod every;

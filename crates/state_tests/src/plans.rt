@@ -267,7 +267,7 @@ fn feedback_renders(alloc: Global) -> Result<bool, Memory> {
 }
 
 #[test]
-fn feedback_through_a_late_link(rt: HostRuntime) -> Result<(), Fail> {
+fn feedback_passes_through_a_late_link(rt: HostRuntime) -> Result<(), Fail> {
     assert!(rt; feedback_renders(rt.alloc())?);
     Ok(())
 }

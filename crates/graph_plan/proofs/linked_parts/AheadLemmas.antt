@@ -1,4 +1,5 @@
--- Epochs that lie ahead: a drain that was cut passes the limit of events before and after the cut; sums of all parts.
+-- Epochs to come: a drain that was cut passes the limit of events before and after the cut; sums of
+-- all parts.
 use Rattle.std.proofs.Common.{◌≡◌, ◌⊎◌, inl, inr, ℕ, zero, suc, ◌+◌, ◌<◌, min, Bool, true, false, List, [], ◌∷◌, ◌++◌, length, map}
 use Rattle.std.proofs.Common.{Some, None, refl, sym, ap, ◌∙◌, subst, arith}
 use Rattle.std.specs.Prelude.{Option, zip}

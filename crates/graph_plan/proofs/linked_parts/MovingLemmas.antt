@@ -287,7 +287,7 @@ does_passed g after (C.Async n) which h = absurd (passed_done which h.0)
 does_passed g after (C.Cycles n) which h = absurd h
 does_passed g after C.Drain which h = absurd h
 
--- A RUN: an epoch that is taken, or none
+-- A RUN: an epoch that is taken, or no epoch
 for_none : (g : Graph) (n : ℕ) → IsEpochFor g n None → RunsOn g n g
 for_none g zero h = refl
 for_none g (suc n) h = absurd (none-some h.0 h.2)

@@ -1,4 +1,5 @@
--- The lines of a part are again those of a script: the nodes and the quantum are the same, and each line names what is made before it.
+-- The lines of a part are again those of a script: the nodes and the quantum are the same, and each
+-- line names what is made before it.
 use Rattle.std.proofs.Common.{◌≡◌, ℕ, ◌+◌, ◌≤◌, List, [], ◌∷◌, length, map, refl, sym, ap, ◌∙◌, subst, arith, Bool, true, false, cond, Some, None}
 use Rattle.std.specs.Prelude.{Option, filter, filter_map, ◌||◌}
 use Rattle.std.specs.Option.{is_some, option_map_or}

@@ -21,7 +21,7 @@ abbrev pub told_by : ℕ → ℕ → Epoch → ℕ
 told_by n before e =
     unwrap_or (option_map (λ f. f.channels) (find (λ f. f.node == n) e.fresh)) before
 
--- the channels with which the last epoch that names it does; 0 where none does
+-- the channels with which the last epoch that names it does; 0 where no epoch does
 abbrev pub told_in : List Epoch → ℕ → ℕ
 told_in epochs n = fold (told_by n) 0 epochs
 

@@ -1,4 +1,4 @@
--- Why every plan is sound: what the graph meets before and after each line of a script.
+-- What makes every plan sound: what the graph meets before and after each line of a script.
 -- Source: this project's own.
 use Rattle.std.specs.Prelude.{◌≡◌, ℕ, ◌<◌, ◌≤◌, true, List, length, Some, All, AllPairs}
 use Rattle.pw_graph.specs.declared.kind.Kind.{Kind}

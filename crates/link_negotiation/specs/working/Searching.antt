@@ -20,7 +20,7 @@ abbrev pub leaves : LinkState → ℕ → Link → Bool
 leaves s n l = is_synchronous s l && (l.from.node == n)
 
 -- LAST: of the first `count` links the last that leaves a node is the i-th, counted from 1; i is 0
--- where none does
+-- where no link does
 pub record IsLast (s : LinkState) (n count i : ℕ) : Type 0 where
   pub within : i ≤ count
   pub there : (d : Link) → 0 < i → leaves s n (slice_index_or s.made (i - 1) d) ≡ true

@@ -18,6 +18,6 @@ pub record LeavesOver (front : List (Shape × ℕ)) (events rest : List Event) :
   pub same : (more : List (Shape × ℕ))
       → AreJoined (front ++ more) events ↔ AreJoined more rest
 
--- whatever cycles come after them, they are not joined in the events
+-- whatever cycles follow them, they are not joined in the events
 pub record IsNoFront (front : List (Shape × ℕ)) (events : List Event) : Type 0 where
   pub never : (more : List (Shape × ℕ)) → ¬ AreJoined (front ++ more) events

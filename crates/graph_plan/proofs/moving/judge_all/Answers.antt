@@ -1,4 +1,4 @@
--- What was looked at passes the limit that the line passes, or none.
+-- What was looked at passes the limit that the line passes, or no limit.
 use Rattle.std.proofs.Common.{◌∙◌, sym}
 use Rattle.graph_plan.proofs.linked_parts.AheadLemmas.{judged_limit, judged_within}
 use Rattle.graph_plan.proofs.moving.judge_all.Goals as goal

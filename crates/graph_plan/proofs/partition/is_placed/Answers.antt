@@ -1,4 +1,4 @@
--- The part that has the node, or none so far.
+-- The part that has the node, or no part so far.
 use Rattle.std.proofs.Common.{◌≡◌, ℕ, false, List, ap, sym, ◌∙◌, subst}
 use Rattle.std.specs.Prelude.{All}
 use Rattle.std.proofs.lemmas.List.{take_all}

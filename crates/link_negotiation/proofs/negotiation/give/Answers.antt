@@ -1,4 +1,4 @@
--- A port that has a format keeps it, and one that has none takes it.
+-- A port that has a format keeps it, and one without a format takes it.
 use Rattle.std.proofs.Common.{◌∙◌}
 use Rattle.link_negotiation.proofs.MayBeGivenLemmas.{there, lacks, has, taken_given, kept_given}
 use Rattle.link_negotiation.proofs.negotiation.give.Goals as goal

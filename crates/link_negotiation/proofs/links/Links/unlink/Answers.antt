@@ -1,4 +1,5 @@
--- The nodes of a link that is there have numbers below 64, and a release keeps how many nodes there are.
+-- The nodes of a link that is there have numbers below 64, and a release keeps how many nodes there
+-- are.
 use Rattle.std.proofs.Common.{◌≡◌, ℕ, ◌<◌, ◌≤◌, List, length, sym, ap, ◌∙◌, subst, arith, true, not}
 use Rattle.std.specs.List.{All}
 use Rattle.std.proofs.lemmas.List.Elements.{All-filter}
