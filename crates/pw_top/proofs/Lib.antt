@@ -8,7 +8,6 @@ pub mod GroupsLemmas
 pub mod HeadlineLemmas
 pub mod JoinedLemmas
 pub mod LoadsLemmas
-pub mod NarrowLemmas
 pub mod OneAnswerLemmas
 pub mod OneGroupsLemmas
 pub mod OneLineLemmas

@@ -30,7 +30,8 @@ use Rattle.pw_top.specs.FormatFile.{HoldsFormat}
 use Rattle.pw_top.specs.Refusals.{wave_outcome}
 use Rattle.pw_top.specs.Loads.{wav_limit, wav_which, TakesWave, ReadsSource, LoadsSource, narrowed_outcome, NarrowsTo, ReadsOffer, LoadsOffer}
 use Rattle.pw_top.specs.Loads.{LoadsLine}
-use Rattle.pw_top.specs.PlanInputs.{with_wave, with_plain, MayLoad, AreSoundInputs}
+use Rattle.script_inputs.specs.working.SoundInputs.{MayMake}
+use Rattle.pw_top.specs.PlanInputs.{with_wave, with_plain, AreSoundInputs}
 use Rattle.pw_top.proofs.OnePartLemmas.{HasOne, part_one, outcomes_equal, ok_is, binds_one, part_gave, went, load_one, format_one}
 use Rattle.pw_top.proofs.PlanInputLemmas.{plain_sound, wave_sound, narrow_done}
 use Rattle.pw_top.proofs.WaveFormLemmas.{wave_known}
@@ -151,7 +152,7 @@ module _ (names : Names) (place : ℕ) (port : PortId) (file : List ℕ) (inputs
   }
 
 -- each line
-pub line_known : (names : Names) (place : ℕ) (command : Command) (inputs : PlanInputs) → IsFresh inputs.ports → MayLoad inputs.ports command
+pub line_known : (names : Names) (place : ℕ) (command : Command) (inputs : PlanInputs) → IsFresh inputs.ports → MayMake inputs.ports command
     → IsKnown inputs (option_map (λ m. m.1) (made_by command)) (LoadsLine names place command inputs)
 line_known names place (C.Source n file) inputs fresh may = source_known names place n file inputs fresh may.0 may.1
 line_known names place (C.Offer port file) inputs fresh may = offer_known names place port file inputs fresh may

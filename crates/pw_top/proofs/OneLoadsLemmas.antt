@@ -9,7 +9,7 @@ use Rattle.graph_script.specs.Kinds.{made_by}
 use Rattle.pw_top.specs.declared.inputs.PlanInputs.{PlanInputs}
 use Rattle.pw_top.specs.Answer.{Expected}
 use Rattle.pw_top.specs.Loads.{LoadsLine, LoadsAll}
-use Rattle.pw_top.proofs.LoadsLemmas.{IsUnderWay, may_load, one_more}
+use Rattle.script_inputs.proofs.LineLemmas.{IsUnderWay, may_make, one_more}
 use Rattle.pw_top.proofs.OnePartLemmas.{HasOne, part_one, outcomes_equal, ok_is, binds_given, part_gave, went}
 use Rattle.pw_top.proofs.OneLineLemmas.{IsFresh, IsKnown, line_known}
 
@@ -17,7 +17,7 @@ use Rattle.pw_top.proofs.OneLineLemmas.{IsFresh, IsKnown, line_known}
 module _ (names : Names) (all : List Kind) (few : length all ≤ 63) where
   first_known : (l : Line) (ls : List Line) (inputs : PlanInputs) → IsFresh inputs.ports → IsUnderWay all (l ∷ ls) inputs.ports
       → IsKnown inputs (option_map (λ m. m.1) (made_by l.command)) (LoadsLine names l.line l.command inputs)
-  first_known l ls inputs fresh way = line_known names l.line l.command inputs fresh (may_load all few l ls inputs.ports way)
+  first_known l ls inputs fresh way = line_known names l.line l.command inputs fresh (may_make all few l ls inputs.ports way)
 
   pub all_one : (ls : List Line) (inputs : PlanInputs) → IsFresh inputs.ports → IsUnderWay all ls inputs.ports → HasOne (LoadsAll names ls inputs)
   all_one [] inputs fresh way = part_one [] (λ outcome. outcome ≡ Ok inputs) (outcomes_equal (Ok inputs))

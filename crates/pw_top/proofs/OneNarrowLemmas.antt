@@ -21,7 +21,7 @@ use Rattle.port_model.proofs.NodeLemmas.{at_place, at_port, has_place}
 use Rattle.pw_top.specs.declared.inputs.PlanInputs.{PlanInputs}
 use Rattle.pw_top.specs.Loads.{narrowed_outcome, NarrowsTo}
 use Rattle.pw_top.proofs.OnePartLemmas.{OneOutcome}
-use Rattle.pw_top.proofs.PlanInputLemmas.{nowhere}
+use Rattle.script_inputs.proofs.SoundInputsLemmas.{nowhere}
 
 -- a file narrows a port in one way: its own offer is a Format
 module _ (place : ℕ) (inputs : PlanInputs) (port : PortId) (file : Format) (n : Node) (s : PortState) (at_node : slice_get inputs.ports port.node ≡ Some n)

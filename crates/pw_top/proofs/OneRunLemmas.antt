@@ -40,7 +40,8 @@ use Rattle.pw_top.specs.PlannedWork.{PlansTo, KeepsPlan, PlansInputs, PlaysTo, P
 use Rattle.pw_top.specs.Run.{IsRunAnswer}
 use Rattle.pw_top.specs.ScriptFile.{KeepsInputs, LoadsInputs, ReadsScript, LoadsScript, PlansFile}
 use Rattle.pw_top.specs.PlanInputs.{nothing_loaded}
-use Rattle.pw_top.proofs.LoadsLemmas.{IsUnderWay, sound_start, way_start, inputs_of}
+use Rattle.script_inputs.proofs.LineLemmas.{IsUnderWay}
+use Rattle.pw_top.proofs.LoadsLemmas.{sound_start, way_start, inputs_of}
 use Rattle.pw_top.proofs.OnePartLemmas.{HasOne, OneOutcome, part_one, outcomes_equal, ok_is, binds_given, binds_one, part_gave, went, load_one}
 use Rattle.pw_top.proofs.OneLineLemmas.{IsFresh}
 use Rattle.pw_top.proofs.OneLoadsLemmas.{all_one, all_after}

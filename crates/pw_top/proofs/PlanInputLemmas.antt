@@ -1,121 +1,53 @@
--- Inputs stay sound through each line.
-use Rattle.std.proofs.Common.{◌≡◌, ℕ, ◌+◌, ◌<◌, ◌≤◌, List, [], ◌∷◌, ◌++◌, length, get_or, map}
-use Rattle.std.proofs.Common.{Option, Some, None, refl, sym, ap, ◌∙◌, subst}
-use Rattle.std.specs.Prelude.{slice_get, IfSome}
-use Rattle.std.specs.List.{All}
-use Rattle.std.proofs.lemmas.Option.{slice_get-get_or}
-use Rattle.std.proofs.lemmas.List.Elements.{All-push, All-weaker}
+-- Inputs with a count of bytes stay sound through each line, as those without one do.
+use Rattle.std.proofs.Common.{◌≡◌, ℕ, ◌+◌, ◌<◌, ◌≤◌, List, length, Option, Some, None}
+use Rattle.std.specs.Prelude.{IfSome}
 use Rattle.pw_graph.specs.declared.ids.PortId.{PortId}
 use Rattle.pw_graph.specs.declared.kind.Kind.{Kind}
 use Rattle.pw_graph.specs.declared.kind.Kind.TheVariants as K
 use Rattle.pw_graph.specs.KindRanges.{IsInRange}
 use Rattle.pw_lists.specs.Limits.{all_wav_bytes_limit}
 use Rattle.format_filter.specs.declared.format.Format.{Format}
-use Rattle.format_filter.specs.declared.common.Filtered.TheVariants.{Common}
-use Rattle.format_filter.specs.CommonFormat.{Filters}
 use Rattle.wav_files.specs.declared.wav.Wav.{Wav}
-use Rattle.wav_files.specs.declared.wav.WavIn.{WavIn}
 use Rattle.wav_files.specs.WavWriting.{IsWave}
-use Rattle.port_model.specs.declared.port_state.PortState.{PortState}
 use Rattle.port_model.specs.declared.port_state.Node.{Node}
-use Rattle.port_model.specs.Offers.{new_port, new_node, HasFileNumbers}
-use Rattle.port_model.specs.Narrowing.{IsUnformatted, Narrows}
-use Rattle.port_model.specs.PortState.{IsPort, changed, with_port, offering}
-use Rattle.port_model.proofs.ChangedLemmas.{All-changed}
+use Rattle.port_model.specs.Offers.{HasFileNumbers}
+use Rattle.port_model.specs.Narrowing.{Narrows}
+use Rattle.port_model.specs.PortState.{IsPort}
 use Rattle.port_model.specs.declared.narrowing.Narrowed.TheVariants.{Done}
-use Rattle.port_model.proofs.NodeLemmas.{at_place, at_port, has_place}
-use Rattle.port_model.proofs.NarrowingLemmas.{nodes_narrowed}
-use Rattle.port_model.proofs.OfferLemmas.{nodes_added}
-use Rattle.graph_plan.specs.Conditions.{IsWaveFor}
-use Rattle.graph_plan.proofs.lists.ElementLemmas.{map_changed}
-use Rattle.graph_plan.proofs.ConditionsLemmas.{waves_plain, waves_source, unused_new, kinds_more, not_source, source_of, wave_for}
+use Rattle.script_inputs.specs.declared.inputs.Inputs.{Inputs}
+use Rattle.script_inputs.specs.working.SoundInputs as M
+use Rattle.script_inputs.proofs.SoundInputsLemmas as L
 use Rattle.pw_top.specs.declared.inputs.PlanInputs.{PlanInputs}
 use Rattle.pw_top.specs.PlanInputs.{with_wave, with_plain, AreSoundInputs, AreInputsAfter}
-use Rattle.pw_top.proofs.NarrowLemmas.{value_narrowed, kind_narrowed}
 
--- no format and no count of buffers
-abbrev IsUnused : PortState → Type 0
-IsUnused s = (s.format ≡ None) × (s.buffers ≡ None)
+-- without the count
+abbrev pub uncounted : PlanInputs → Inputs
+uncounted inputs = record { ports = inputs.ports; waves = inputs.waves }
 
-abbrev HasUnused : Node → Type 0
-HasUnused node = All IsUnused node.ports
+pub uncounted_sound : (inputs : PlanInputs) → AreSoundInputs inputs → M.AreSoundInputs (uncounted inputs)
+uncounted_sound inputs h = record { ports = h.ports; unused = h.unused; waves = h.waves }
 
-no_more : {X : Type 0} (xs : List X) → xs ≡ xs ++ []
-no_more [] = refl
-no_more (x ∷ xs) = ap (λ ys. x ∷ ys) (no_more xs)
+-- sound with the count too, where that is within its limit
+pub counted_sound : (inputs : PlanInputs) → M.AreSoundInputs (uncounted inputs) → inputs.used ≤ all_wav_bytes_limit → AreSoundInputs inputs
+counted_sound inputs h used = record { ports = h.ports; unused = h.unused; waves = h.waves; used = used }
+
+counted : (inputs after : PlanInputs) (made : Option Kind) → M.AreInputsAfter (uncounted inputs) made (uncounted after)
+    → after.used ≤ all_wav_bytes_limit → AreInputsAfter inputs made after
+counted inputs after made h used = record { sound = counted_sound after h.sound used; kinds = h.kinds }
 
 pub plain_sound : (inputs : PlanInputs) (made : Option Kind) → AreSoundInputs inputs
     → IfSome made (λ kind. (length inputs.ports < 63) × IsInRange kind × HasFileNumbers kind 0 0)
     → AreInputsAfter inputs made (with_plain inputs made)
-plain_sound inputs None sound may = record { sound = sound; kinds = no_more (map (λ (n : Node). n.kind) inputs.ports) }
-plain_sound inputs (Some kind) sound may = record {
-  sound = record {
-    ports = nodes_added inputs.ports kind 0 0 sound.ports may.0 may.1 may.2;
-    unused = All-push HasUnused inputs.ports (new_node kind 0 0) sound.unused (unused_new kind 0 0);
-    waves = waves_plain inputs.ports (new_node kind 0 0) inputs.waves (not_source kind may.2) sound.waves;
-    used = sound.used;
-  };
-  kinds = kinds_more inputs.ports (new_node kind 0 0);
-}
+plain_sound inputs None sound may = counted inputs inputs None (L.plain_sound (uncounted inputs) None (uncounted_sound inputs sound) may) sound.used
+plain_sound inputs (Some kind) sound may = counted inputs (with_plain inputs (Some kind)) (Some kind)
+    (L.plain_sound (uncounted inputs) (Some kind) (uncounted_sound inputs sound) may) sound.used
 
 pub wave_sound : (inputs : PlanInputs) (node size : ℕ) (wav : Wav) → AreSoundInputs inputs → node ≡ length inputs.ports → length inputs.ports < 63
     → IsWave wav → inputs.used + size ≤ all_wav_bytes_limit → AreInputsAfter inputs (Some K.Source) (with_wave inputs node size wav)
-wave_sound inputs node size wav sound place room wave small = record {
-  sound = record {
-    ports = nodes_added inputs.ports K.Source wav.rate wav.channels sound.ports room tt (wave.rate, wave.channels);
-    unused = All-push HasUnused inputs.ports (source_of wav) sound.unused (unused_new K.Source wav.rate wav.channels);
-    waves = waves_source inputs.ports (source_of wav) inputs.waves (record { node = node; wav = wav }) place
-        (wave_for inputs.ports node wav place) sound.waves;
-    used = small;
-  };
-  kinds = kinds_more inputs.ports (source_of wav);
-}
-
--- a narrowed port
-module _ (inputs : PlanInputs) (port : PortId) (n : Node) (s : PortState) (file c : Format) (at_node : slice_get inputs.ports port.node ≡ Some n)
-    (at_state : slice_get n.ports port.port ≡ Some s) (free : IsUnformatted n) (filters : Filters s.own file (Common c))
-    (sound : AreSoundInputs inputs) where
-  abbrev later : List Node
-  later = with_port inputs.ports port (offering c)
-
-  wave_stays : (w : WavIn) → IsWaveFor inputs.ports w → IsWaveFor later w
-  wave_stays w h = record {
-    source = kind_narrowed inputs.ports port n s file c at_node at_state filters w.node ∙ h.source;
-    rate = value_narrowed inputs.ports port n s file c at_node at_state filters (record { node = w.node; port = 0 }) 65539 _ h.rate;
-    channels = value_narrowed inputs.ports port n s file c at_node at_state filters (record { node = w.node; port = 0 }) 65540 _ h.channels;
-  }
-
-  pub narrowed_sound : AreInputsAfter inputs None (record inputs { ports = later })
-  narrowed_sound = record {
-    sound = record {
-      ports = nodes_narrowed inputs.ports port n s file c sound.ports at_node at_state free filters;
-      unused = All-changed HasUnused inputs.ports port.node (λ node. record node { ports = changed node.ports port.port (offering c) }) sound.unused
-          (λ node e h. All-changed IsUnused node.ports port.port (offering c) h (λ t d u. u));
-      waves = record {
-        each = All-weaker (IsWaveFor inputs.ports) (IsWaveFor later) wave_stays inputs.waves sound.waves.each;
-        one = λ k is. sound.waves.one k (sym (kind_narrowed inputs.ports port n s file c at_node at_state filters k) ∙ is);
-      };
-      used = sound.used;
-    };
-    kinds = map_changed (λ (m : Node). m.kind) inputs.ports port.node (λ node. record node { ports = changed node.ports port.port (offering c) })
-        (λ node. refl) ∙ no_more (map (λ (m : Node). m.kind) inputs.ports);
-  }
-
-pub nowhere : Node
-nowhere = record { kind = K.Source; ports = [] }
+wave_sound inputs node size wav sound place room wave small = counted inputs (with_wave inputs node size wav) (Some K.Source)
+    (L.wave_sound (uncounted inputs) node wav (uncounted_sound inputs sound) place room (wave.rate, wave.channels)) small
 
 pub narrow_done : (inputs : PlanInputs) (port : PortId) (file : Format) (after : List Node) → AreSoundInputs inputs → IsPort inputs.ports port
     → Narrows inputs.ports port file Done after → AreInputsAfter inputs None (record inputs { ports = after })
-narrow_done inputs port file after sound is h =
-    let place = has_place inputs.ports port sound.ports is in
-    let n = get_or inputs.ports port.node nowhere in
-    let at_node = slice_get-get_or inputs.ports port.node nowhere place.0 in
-    let s = get_or n.ports port.port (new_port K.Source 0 0 0) in
-    let at_state = slice_get-get_or n.ports port.port (new_port K.Source 0 0 0) (place.1 n at_node) in
-    let w = at_port (λ node t. (own : Format) × Filters t.own file (Common own) × (after ≡ with_port inputs.ports port (offering own)))
-    inputs.ports port n s at_node at_state h in
-    let free : IsUnformatted n = All-weaker (λ (t : PortState). (t.format ≡ None) × (t.buffers ≡ None)) (λ (t : PortState). t.format ≡ None)
-    (λ t u. u.0) n.ports (at_place (λ (m : Node). All (λ (t : PortState). (t.format ≡ None) × (t.buffers ≡ None)) m.ports) inputs.ports port.node n
-    sound.unused at_node) in
-    subst (λ (ls : List Node). AreInputsAfter inputs None (record inputs { ports = ls })) (sym w.2)
-    (narrowed_sound inputs port n s file w.0 at_node at_state free w.1 sound)
+narrow_done inputs port file after sound is h = counted inputs (record inputs { ports = after }) None
+    (L.narrow_done (uncounted inputs) port file after (uncounted_sound inputs sound) is h) sound.used

@@ -23,7 +23,8 @@ use Rattle.pw_top.specs.FormatFile.{HoldsFormat}
 use Rattle.pw_top.specs.PodFile.{pod_file_limit}
 use Rattle.pw_top.specs.Refusals.{wave_outcome}
 pub use Rattle.pw_top.specs.Narrowing.{narrowed_outcome}
-use Rattle.pw_top.specs.PlanInputs.{with_wave, plain_kind, with_plain}
+use Rattle.script_inputs.specs.Inputs.{plain_kind}
+use Rattle.pw_top.specs.PlanInputs.{with_wave, with_plain}
 
 -- the limit of a WAV file after n bytes of others: its own, or what all of them leave
 abbrev pub wav_limit : ℕ → ℕ

@@ -1,19 +1,14 @@
 -- The inputs of a plan: the nodes that the lines of a script have made so far, with what their
 -- ports offer, and the waves of their sources.
 -- Source: this project's own grammar, docs/FORMATS.md.
-use Rattle.std.specs.Prelude.{◌≡◌, ℕ, ◌+◌, ◌<◌, ◌≤◌, List, [], ◌∷◌, ◌++◌, map, Option, Some, None, All, length, IfSome, option_map, option_to_list}
+use Rattle.std.specs.Prelude.{◌≡◌, ℕ, ◌+◌, ◌≤◌, List, [], ◌∷◌, ◌++◌, map, Option, Some, None, All, option_to_list}
 use Rattle.pw_graph.specs.declared.kind.Kind.{Kind}
 use Rattle.pw_graph.specs.declared.kind.Kind.TheVariants as K
-use Rattle.pw_graph.specs.KindRanges.{IsInRange}
-use Rattle.pw_lists.specs.Limits.{all_wav_bytes_limit, nodes_limit}
+use Rattle.pw_lists.specs.Limits.{all_wav_bytes_limit}
 use Rattle.wav_files.specs.declared.wav.Wav.{Wav}
-use Rattle.graph_script.specs.declared.command.Command.{Command}
-use Rattle.graph_script.specs.declared.command.Command.TheVariants as C
 use Rattle.graph_script.specs.declared.script.Line.{Line}
-use Rattle.graph_script.specs.Kinds.{made_by}
 use Rattle.port_model.specs.declared.port_state.Node.{Node}
-use Rattle.port_model.specs.Offers.{new_node, HasFileNumbers}
-use Rattle.port_model.specs.PortState.{IsPort}
+use Rattle.port_model.specs.Offers.{new_node}
 use Rattle.port_model.specs.SoundPorts.{AreSoundNodes}
 use Rattle.graph_plan.specs.Conditions.{AreScriptPorts, HaveWaves}
 use Rattle.pw_top.specs.declared.inputs.PlanInputs.{PlanInputs}
@@ -30,22 +25,10 @@ with_wave inputs node size wav = record {
   used = inputs.used + size;
 }
 
--- the kind of a node that needs no file to offer what it does
-abbrev pub plain_kind : Command → Option Kind
-plain_kind (C.Source node file) = None
-plain_kind command = option_map (λ m. m.1) (made_by command)
-
 -- a node more of such a kind, if a line makes one
 abbrev pub with_plain : PlanInputs → Option Kind → PlanInputs
 with_plain inputs None = inputs
 with_plain inputs (Some kind) = record inputs { ports = inputs.ports ++ new_node kind 0 0 ∷ [] }
-
--- what a line asks of the nodes before it: it makes the next one, and names a port that is there
-abbrev pub MayLoad : List Node → Command → Type 0
-MayLoad nodes (C.Source node file) = (node ≡ length nodes) × (length nodes < nodes_limit)
-MayLoad nodes (C.Offer port file) = IsPort nodes port
-MayLoad nodes command = IfSome (plain_kind command)
-    (λ kind. (length nodes < nodes_limit) × IsInRange kind × HasFileNumbers kind 0 0)
 
 -- no port has a format or a count of buffers yet
 abbrev pub AreUnused : List Node → Type 0

@@ -14,7 +14,9 @@ ghost use Rattle.port_model.specs.PortState.{IsPort};
 ghost use Rattle.pw_top.specs.Allowed.{Reads};
 ghost use Rattle.pw_top.specs.working.Ending.{Ends, CommandCause};
 ghost use Rattle.pw_top.specs.working.Preparing.{LoadsOnly, Tells};
-ghost use Rattle.pw_top.specs.PlanInputs.{with_wave, plain_kind, with_plain, MayLoad, AreSoundInputs, AreInputsAfter};
+ghost use Rattle.script_inputs.specs.Inputs.{plain_kind};
+ghost use Rattle.script_inputs.specs.working.SoundInputs.{MayMake};
+ghost use Rattle.pw_top.specs.PlanInputs.{with_wave, with_plain, AreSoundInputs, AreInputsAfter};
 ghost use Rattle.pw_top.specs.Loads.{wav_limit, wav_which, TakesWave, ReadsSource, LoadsSource, NarrowsTo};
 ghost use Rattle.pw_top.specs.Loads.{ReadsOffer, LoadsOffer, LoadsLine};
 
@@ -264,7 +266,7 @@ pub fn load_line<F: Files>(
     inputs: PlanInputs,
 ) -> Result<PlanInputs, Status>
     requires sound { AreSoundInputs inputs }
-    requires line { MayLoad inputs.ports line.now.command }
+    requires line { MayMake inputs.ports line.now.command }
     ensures files { LoadsOnly (F.held files.old) (F.held files.new) (F.load_faults files.old)
         (F.load_faults files.new) (F.store_faults files.old) (F.store_faults files.new) }
     ensures told { Tells (F.held files.old)

@@ -1,6 +1,7 @@
 -- A node that needs no file keeps the inputs sound.
 use Rattle.std.proofs.Common.{subst, sym, ap, ◌∙◌}
-use Rattle.pw_top.specs.PlanInputs.{plain_kind, with_plain, AreInputsAfter}
+use Rattle.script_inputs.specs.Inputs.{plain_kind}
+use Rattle.pw_top.specs.PlanInputs.{with_plain, AreInputsAfter}
 use Rattle.pw_top.proofs.PlanInputLemmas.{plain_sound}
 use Rattle.pw_top.proofs.loads.keep_line.Goals as goal
 

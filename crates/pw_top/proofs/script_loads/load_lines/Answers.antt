@@ -9,8 +9,8 @@ use Rattle.graph_lines.specs.Start.{kinds_of}
 use Rattle.pw_top.specs.working.Ending.{Ends}
 use Rattle.pw_top.specs.Loads.{LoadsLine, LoadsAll}
 use Rattle.pw_top.specs.PlanInputs.{AreInputsAfter, AreInputsOf}
-use Rattle.pw_top.proofs.LoadsLemmas.{IsUnderWay, next_line, past, may_load, one_more, stops_here, goes_here, told_before}
-use Rattle.pw_top.proofs.LoadsLemmas.{sound_start, way_start, rest_start, inputs_of, ends_here, later_cause}
+use Rattle.script_inputs.proofs.LineLemmas.{IsUnderWay, next_line, past, may_make, one_more}
+use Rattle.pw_top.proofs.LoadsLemmas.{stops_here, goes_here, told_before, sound_start, way_start, rest_start, inputs_of, ends_here, later_cause}
 use Rattle.pw_top.proofs.script_loads.load_lines.Goals as goal
 
 pub loop-line-init : goal.loop-line-init
@@ -28,7 +28,7 @@ pub load_line-requires-clause-line : goal.load_line-requires-clause-line
 load_line-requires-clause-line g c =
     let lines = c.args.lines.now in
     let l = c.line-item.result in
-    may_load (kinds_of lines) c.requires.few l (drop (c.loop-line.line-index + 1) lines) c.loop-line.inputs.ports
+    may_make (kinds_of lines) c.requires.few l (drop (c.loop-line.line-index + 1) lines) c.loop-line.inputs.ports
     (subst (λ (ls : List Line). IsUnderWay (kinds_of lines) ls c.loop-line.inputs.ports)
     (next_line lines c.loop-line.line-index l c.loop-line-test.true c.line-item.is) c.loop-line.invariant.way)
 

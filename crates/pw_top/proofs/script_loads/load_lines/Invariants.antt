@@ -8,7 +8,7 @@ use Rattle.pw_top.specs.working.Ending.{Ends}
 use Rattle.pw_top.specs.working.Preparing.{LoadsOnly}
 use Rattle.pw_top.specs.Loads.{LoadsAll}
 use Rattle.pw_top.specs.PlanInputs.{nothing_loaded, AreSoundInputs}
-use Rattle.pw_top.proofs.LoadsLemmas.{IsUnderWay}
+use Rattle.script_inputs.proofs.LineLemmas.{IsUnderWay}
 use Rattle.pw_top.proofs.script_loads.load_lines.Given as goal
 
 -- whatever the lines that are left load next, all lines load; what is held stays
