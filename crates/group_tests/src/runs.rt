@@ -4,6 +4,7 @@ ghost use Rattle.group_tests.specs.Groups.{CanRunAll};
 use crate::group::{Group, GroupRow, group_of};
 use driver_groups::run_parts;
 use graph_checks::is_legal_history;
+use plan_support::MeetAll;
 use pw_graph::Part;
 use pw_outside::{Gate, Meet, Open};
 use std::alloc::Global;
@@ -81,6 +82,48 @@ const TWO_AND_ONE: RunRow<'static> = RunRow {
     },
     kept: &[(3, &[150, 150]), (4, &[10, 10])],
     boards: 2,
+};
+
+/// Six squares, each with a sink of its own.
+const SIX_SQUARES: RunRow<'static> = RunRow {
+    group: GroupRow {
+        texts: &[
+            "quantum 2\nsquare a 48000 1 4 10\nsquare b 48000 1 4 20\nsquare c 48000 1 4 30\n\
+                square d 48000 1 4 40\nsquare e 48000 1 4 50\nsquare f 48000 1 4 60\n\
+                sink o o.wav\nsink p p.wav\nsink q q.wav\nsink r r.wav\nsink s s.wav\nsink t t.wav\n\
+                driver o 1\nlink a.out o.in\ncycles 1\n",
+            "quantum 2\nsquare a 48000 1 4 10\nsquare b 48000 1 4 20\nsquare c 48000 1 4 30\n\
+                square d 48000 1 4 40\nsquare e 48000 1 4 50\nsquare f 48000 1 4 60\n\
+                sink o o.wav\nsink p p.wav\nsink q q.wav\nsink r r.wav\nsink s s.wav\nsink t t.wav\n\
+                driver p 1\nlink b.out p.in\ncycles 1\n",
+            "quantum 2\nsquare a 48000 1 4 10\nsquare b 48000 1 4 20\nsquare c 48000 1 4 30\n\
+                square d 48000 1 4 40\nsquare e 48000 1 4 50\nsquare f 48000 1 4 60\n\
+                sink o o.wav\nsink p p.wav\nsink q q.wav\nsink r r.wav\nsink s s.wav\nsink t t.wav\n\
+                driver q 1\nlink c.out q.in\ncycles 1\n",
+            "quantum 2\nsquare a 48000 1 4 10\nsquare b 48000 1 4 20\nsquare c 48000 1 4 30\n\
+                square d 48000 1 4 40\nsquare e 48000 1 4 50\nsquare f 48000 1 4 60\n\
+                sink o o.wav\nsink p p.wav\nsink q q.wav\nsink r r.wav\nsink s s.wav\nsink t t.wav\n\
+                driver r 1\nlink d.out r.in\ncycles 1\n",
+            "quantum 2\nsquare a 48000 1 4 10\nsquare b 48000 1 4 20\nsquare c 48000 1 4 30\n\
+                square d 48000 1 4 40\nsquare e 48000 1 4 50\nsquare f 48000 1 4 60\n\
+                sink o o.wav\nsink p p.wav\nsink q q.wav\nsink r r.wav\nsink s s.wav\nsink t t.wav\n\
+                driver s 1\nlink e.out s.in\ncycles 1\n",
+            "quantum 2\nsquare a 48000 1 4 10\nsquare b 48000 1 4 20\nsquare c 48000 1 4 30\n\
+                square d 48000 1 4 40\nsquare e 48000 1 4 50\nsquare f 48000 1 4 60\n\
+                sink o o.wav\nsink p p.wav\nsink q q.wav\nsink r r.wav\nsink s s.wav\nsink t t.wav\n\
+                driver t 1\nlink f.out t.in\ncycles 1\n",
+        ],
+        sources: &[],
+    },
+    kept: &[
+        (6, &[10, 10]),
+        (7, &[20, 20]),
+        (8, &[30, 30]),
+        (9, &[40, 40]),
+        (10, &[50, 50]),
+        (11, &[60, 60]),
+    ],
+    boards: 6,
 };
 
 /// No part at all.
@@ -194,6 +237,18 @@ fn nodes_of_two_parts_meet(rt: HostRuntime) -> Result<(), Fail> {
     assert!(rt; meets(&rt, rt.alloc(), &TWO_SQUARES, 0, 1));
     assert!(rt; meets(&rt, rt.alloc(), &TWO_AND_ONE, 0, 2));
     assert!(rt; meets(&rt, rt.alloc(), &TWO_AND_ONE, 1, 2));
+    Ok(())
+}
+
+// Whether the squares of all six parts are awake at once.
+fn six_meet<R: Threads + Wait + Sync>(rt: &R, alloc: Global) -> bool {
+    let gate = MeetAll::new(0b11_1111);
+    row_goes(rt, alloc, &SIX_SQUARES, &gate) && gate.met()
+}
+
+#[test]
+fn six_parts_meet(rt: HostRuntime) -> Result<(), Fail> {
+    assert!(rt; six_meet(&rt, rt.alloc()));
     Ok(())
 }
 

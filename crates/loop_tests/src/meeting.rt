@@ -1,83 +1,12 @@
 //! Sixteen loops, each in a thread of its own: all their nodes are awake at once.
 
-use crate::work::{WorkRow, work_of};
 use graph_run::run_plan;
-use pw_outside::{Gate, Never};
+use plan_support::{MeetAll, SIXTEEN_SQUARES, work_of};
+use pw_outside::Never;
 use std::alloc::Global;
 use std::sync::Wait;
-use std::sync::atomic::{AtomicU64, Ordering};
 use std::test::Fail;
 use std::thread::Threads;
-
-/// How often a node looks for the others.
-const LOOKS: u32 = 100_000_000;
-
-/// Holds each of some nodes, by their bits, until all of them are in, or it has looked often
-/// enough.
-#[derive(Drop)]
-struct MeetAll {
-    all: u64,
-    entered: AtomicU64,
-    met: AtomicU64,
-}
-
-impl MeetAll {
-    // Takes no memory.
-    fn new(all: u64) -> MeetAll {
-        MeetAll {
-            all,
-            entered: AtomicU64::new(0),
-            met: AtomicU64::new(0),
-        }
-    }
-
-    // Whether all nodes are in, as soon as they are.
-    fn are_in(&self) -> bool {
-        for _look in 0..LOOKS {
-            if self.entered.load(Ordering::SeqCst) == self.all {
-                return true;
-            }
-        }
-        false
-    }
-
-    // Whether each of them found all others.
-    fn met(&self) -> bool {
-        self.met.load(Ordering::SeqCst) == self.all
-    }
-}
-
-impl Gate for MeetAll {
-    fn enter(&self, node: u32, _cycle: u32) {
-        let bit = 1u64.rotate_left(node);
-        if self.all & bit == 0 {
-            return;
-        }
-        self.entered.fetch_or(bit, Ordering::SeqCst);
-        if self.are_in() {
-            self.met.fetch_or(bit, Ordering::SeqCst);
-        }
-    }
-}
-
-/// Sixteen squares, each of a loop of its own, into a sink that drives.
-const SIXTEEN_SQUARES: WorkRow<'static> = WorkRow {
-    text: "quantum 2\n\
-        square s0 48000 1 4 100\nsquare s1 48000 1 4 100\nsquare s2 48000 1 4 100\n\
-        square s3 48000 1 4 100\nsquare s4 48000 1 4 100\nsquare s5 48000 1 4 100\n\
-        square s6 48000 1 4 100\nsquare s7 48000 1 4 100\nsquare s8 48000 1 4 100\n\
-        square s9 48000 1 4 100\nsquare s10 48000 1 4 100\nsquare s11 48000 1 4 100\n\
-        square s12 48000 1 4 100\nsquare s13 48000 1 4 100\nsquare s14 48000 1 4 100\n\
-        square s15 48000 1 4 100\n\
-        sink o o.wav\ndriver o 1\n\
-        link s0.out o.in\nlink s1.out o.in\nlink s2.out o.in\nlink s3.out o.in\n\
-        link s4.out o.in\nlink s5.out o.in\nlink s6.out o.in\nlink s7.out o.in\n\
-        link s8.out o.in\nlink s9.out o.in\nlink s10.out o.in\nlink s11.out o.in\n\
-        link s12.out o.in\nlink s13.out o.in\nlink s14.out o.in\nlink s15.out o.in\n\
-        cycles 1\n",
-    channels: 0,
-    samples: &[],
-};
 
 // Whether the sixteen squares meet in a run by sixteen loops, of which none is named.
 fn squares_meet<R: Threads + Wait + Sync>(rt: &R, alloc: Global) -> bool {
