@@ -22,10 +22,10 @@ IsWhy named number Named = named ≡ true
 IsWhy named number (Refused r) = (named ≡ false) × (r.number ≡ number)
 
 module _ {M B H : Type 0} (given_of : H → M) (number_of : M → ℕ) (R : M → B → Type 0) where
-  -- a thread has the member; or it has run all the same
+  -- a thread has the member; or one for its number was refused, and it had run all the same
   abbrev pub IsBegun : M → Begun B H → Type 0
   IsBegun given (Running h) = given_of h ≡ given
-  IsBegun given (Done b) = R given b
+  IsBegun given (Done r b) = (r.number ≡ number_of given) × R given b
 
   -- THE START of a member: it is held for its cause, and as it was; or it is not named, and began
   abbrev pub IsStart : Bool → M → Start M B H → Type 0

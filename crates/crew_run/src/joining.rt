@@ -27,7 +27,7 @@ fn join_one<R: Threads + Wait + Sync, G: Gate, M: Drop, B: Drop, C: Work<M, B>>(
             Ok(back) => back,
             Err(given) => crew.work(rt, gate, given),
         },
-        Begun::Done(back) => back,
+        Begun::Done(_why, back) => back,
     }
 }
 

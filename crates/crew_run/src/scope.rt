@@ -23,8 +23,10 @@ struct Task<M, B, L, H> {
     places: Places<M, B, H>,
 }
 
-// The run within a scope: it starts the members, leads, joins, and collects. Each stage takes what
-// the one before it gave, so that they have no other order.
+// The run within a scope: it starts the members, leads, joins, and collects. The lead takes those
+// that the starts held, and the collection what the lead and the join gave, so that these have no
+// other order. The join takes nothing of the lead: no type keeps it from coming first, where it
+// would wait for ever if a thread needs the caller's.
 fn run_within<
     's,
     E,
@@ -47,7 +49,8 @@ fn run_within<
     ticker: &mut K,
 ) -> C::Ended
     requires { CanBegin (C.can_lead crew.now) (C.can_start crew.now) (length adopt.now) task }
-    ensures { C.has_ended crew.now task.lead task.members result (K.ticks ticker.old) (K.ticks ticker.new) }
+    ensures { C.has_ended crew.now task.lead task.members result (K.ticks ticker.old)
+        (K.ticks ticker.new) }
 {
     let Task {
         members,

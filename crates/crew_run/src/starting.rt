@@ -46,7 +46,7 @@ impl<M, B, C: Work<M, B>> Promise<Result<B, M>> for Given<M, B, C> {
 #[derive(Drop)]
 pub(crate) enum Begun<B, H> {
     Running(H),
-    Done(B),
+    Done(Refusal, B),
 }
 
 /// The handle of a member's thread.
@@ -87,7 +87,7 @@ fn not_started<M, B, C: Work<M, B>>(
         → IsStart (λ h. h.promise.given.value) C.number_of C.has_run false given result }
 {
     match back {
-        Ok(back) => Start::Gone(Begun::Done(back)),
+        Ok(back) => Start::Gone(Begun::Done(why, back)),
         Err(member) => Start::Kept(Held {
             why: Why::Refused(why),
             member,
