@@ -79,7 +79,7 @@ const ONE_THREAD: &'static [Row<'static>] = &[
     },
 ];
 
-/// Any number of loops renders the same, and ticks show in the events alone.
+/// Any number of loops renders the same, and ticks show in only the events.
 const LOOPS: &'static [Row<'static>] = &[
     Row {
         line: "run s.graph --ticks 2 --loops 0",

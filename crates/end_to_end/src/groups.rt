@@ -21,7 +21,7 @@ const TWO: Row<'static> = Row {
     ..RUN
 };
 
-/// Parts that drain alone; the same by one driver; and sinks of two parts in one file, of which the
+/// Parts that drain each by itself; the same by one driver; and sinks of two parts in one file, of which the
 /// higher number is stored last.
 const DRAINS: &'static [Row<'static>] = &[
     TWO,
@@ -50,7 +50,7 @@ const DRAINS: &'static [Row<'static>] = &[
     },
 ];
 
-/// No node and so no part; a node alone, whose cycles the built-in driver starts; and lines between
+/// No node and so no part; a node by itself, whose cycles the built-in driver starts; and lines between
 /// two parts.
 const PARTS: &'static [Row<'static>] = &[
     Row {

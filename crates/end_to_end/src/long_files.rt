@@ -37,14 +37,14 @@ fn append_blocks(bytes: &mut Items<u8>, block: &[u8], count: u32) -> Result<(), 
     bytes.extend(b"data\0\0\0\0".as_slice())
 }
 
-// Appends what stands before the blocks.
+// Appends what is before the blocks.
 fn append_front(bytes: &mut Items<u8>) -> Result<(), Memory> {
     bytes.extend(b"RIFF\xff\xff\xff\xffWAVEfmt \x10\0\0\0".as_slice())?;
     bytes.extend(b"\x01\0\x01\0\x80\xbb\0\0\0\x77\x01\0\x02\0\x10\0junk".as_slice())?;
     bytes.extend(blocks().wrapping_mul(1_048_576).to_le_bytes().as_slice())
 }
 
-// A wave of no frame, behind a chunk of 129 MiB.
+// A wave of no frame, after a chunk of 129 MiB.
 fn big_wave(alloc: Global) -> Result<Items<u8>, Memory> {
     let block = zeros(alloc)?;
     let mut bytes = Items::new(alloc);

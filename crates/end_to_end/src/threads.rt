@@ -59,7 +59,7 @@ fn a_report_has_the_events_of_all_parts(rt: HostRuntime) {
     assert_eq!(rt; events, Some(12));
 }
 
-/// Lets two nodes look for each other in the first cycle alone, so that one thread is soon done.
+/// Lets two nodes look for each other in only the first cycle, so that one thread is soon done.
 #[derive(Drop)]
 struct MeetAtFirst(Meet);
 

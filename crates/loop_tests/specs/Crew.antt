@@ -7,7 +7,7 @@ use Rattle.driver_cycle.specs.Epochs.{IsThread}
 use Rattle.driver_cycle.specs.Leading.{IsDriving}
 use Rattle.loop_tests.specs.declared.crew.Crew.{Crew}
 
--- THE CREW: its seat leads the board, on which all its loops stand; it waits for the driver's node
+-- THE CREW: its seat leads the board, on which all its loops are; it waits for the driver's node
 -- where a cycle is begun
 pub record IsCrewOn (board : Board) (crew : Crew) : Type 0 where
   pub thread : IsThread board crew.seat crew.own crew.others.items

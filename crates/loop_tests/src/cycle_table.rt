@@ -18,8 +18,8 @@ use std::alloc::Global;
 use std::sync::atomic::{AtomicU64, Ordering};
 use std::test::Fail;
 
-/// A source s is halved by g for the sink o, which drives; a second sink, late, hears s one cycle
-/// late.
+/// A source s is halved by g for the sink o, which drives; a second sink, late, receives s one
+/// cycle late.
 const GRAPH: WorkRow<'static> = WorkRow {
     text: "quantum 4\nsource s s.wav\ngain g 128\nloop g 1\nsink late late.wav\nloop late 0\n\
         async late\nsink o o.wav\ndriver o 1\n\

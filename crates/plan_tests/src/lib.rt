@@ -1,4 +1,4 @@
-//! Tests of graph_plan over whole scripts, and of script_inputs. They stand apart, since a crate
+//! Tests of graph_plan over whole scripts, and of script_inputs. They are apart, since a crate
 //! that has tests is proved twice.
 #![tactic(auto)]
 

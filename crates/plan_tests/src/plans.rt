@@ -189,8 +189,8 @@ fn a_part_may_differ_from_the_whole(rt: HostRuntime) -> Result<(), Fail> {
     expect_plans(&rt, text, wanted)
 }
 
-// Two parts of two nodes have 14 events in each cycle, of which there may be 4,194,304; none of
-// them passes the limit alone.
+// Two parts of two nodes have 14 events in each cycle, of which there may be 4,194,304; neither
+// part passes the limit by itself.
 #[test]
 fn events_of_all_parts_are_planned_up_to_the_limit(rt: HostRuntime) -> Result<(), Fail> {
     let text = "square q 48000 1 4 1\nsquare r 48000 1 4 1\nmeter m\nmeter n\ndriver m 1\n\

@@ -103,7 +103,7 @@ grown_is nodes later command next e = go (made_by command) next e where
       let b = length-map nodes (λ (n : Node). n.kind) in
       omega (arith, all, parts, a, b, h)
 
--- the lines that are left, with the next in front; and none behind the last
+-- the lines that are left, with the next in front; and no line after the last
 pub next_line : (lines : List Line) (i : ℕ) (line : Line) → i < length lines → line ≡ get_or lines i line → drop i lines ≡ line ∷ drop (i + 1) lines
 next_line lines i line lt is = drop-cons lines i line lt ∙ ap (λ (l : Line). l ∷ drop (suc i) lines) (sym is)
     ∙ ap (λ (k : ℕ). line ∷ drop k lines) (sym (add-one i))
@@ -149,7 +149,7 @@ pub way_start : (lines : List Line) (inputs : Inputs) → AreLinesOf (kinds_of l
 way_start lines inputs all made e = subst (λ (s : Inputs). IsUnderWay (kinds_of lines) lines s.ports) (sym e)
     (record { good = record { named = made; lines_of = all }; kinds = refl })
 
--- behind the last line
+-- after the last line
 pub ports_of : (lines left : List Line) (inputs : Inputs) → AreSoundInputs inputs → IsUnderWay (kinds_of lines) left inputs.ports → left ≡ []
     → AreScriptPorts lines inputs.ports
 ports_of lines left inputs sound way e = record {

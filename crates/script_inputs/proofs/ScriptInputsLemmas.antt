@@ -60,7 +60,7 @@ pub waves_formed : (P : Wav → Type 0) (command : Command) (waves left : List W
 waves_formed P command waves left wave t h =
     subst (All P) (sym (waves_left command waves left wave t)) (All-drop P (waves_taken command) waves h)
 
--- one line, with the waves that are left and the formats behind those that were used
+-- one line, with the waves that are left and the formats after those that were used
 module _ (l : Line) (ls : List Line) (waves left : List Wav) (wave : Option Wav) (formats : List Format) (used : ℕ) (inputs : Inputs)
     (takes : TakesWave l.command waves wave left) where
   line_here : (r : Result Inputs InputFault) → MakesLine l.line l.command wave (slice_get formats used) inputs r

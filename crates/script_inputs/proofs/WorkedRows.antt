@@ -1,4 +1,4 @@
--- Rows that the definition of a script's inputs gives, worked out by it alone.
+-- Rows that the definition of a script's inputs gives, worked out by only it.
 use Rattle.std.proofs.Common.{◌≡◌, List, [], ◌∷◌, refl, arith, pos}
 use Rattle.std.specs.Prelude.{Ok, Err, codes}
 use Rattle.pw_graph.specs.declared.kind.Kind.TheVariants as K

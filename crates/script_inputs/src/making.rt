@@ -58,8 +58,8 @@ fn make_all(
 ///
 /// `waves` are those of the script's `source` lines and `formats` those of its `offer` lines, each
 /// in the order of the lines; the file words of the lines are not looked at. Waves and formats that
-/// no line takes are left out. An `offer` line narrows what its port offers by then, and by its
-/// format alone; the format's id is not looked at.
+/// no line takes are left out. An `offer` line narrows what its port offers by then, and by
+/// only its format; the format's id is not looked at.
 ///
 /// Errors: the first line that is refused: a `source` line for which no wave is left, an `offer`
 /// line for which no format is left, or whose format does not meet what its port offers by then.

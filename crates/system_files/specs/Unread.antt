@@ -9,7 +9,7 @@ abbrev pub unread_number : Unread → ℕ
 unread_number (U.NoText word) = 1
 unread_number U.Memory = 9
 
--- the sentence, behind the name of the program
+-- the sentence, after the name of the program
 abbrev pub unread_text : Unread → List ℕ
 unread_text (U.NoText word) = codes ": word " ++ (decimal word ++ codes " is not text in UTF-8\n")
 unread_text U.Memory = codes ": no memory was left\n"

@@ -75,7 +75,7 @@ mod tests {
     use crate::in_memory::MemWords;
     use std::test::Fail;
 
-    // Of words, the first being the program's own name: how many are behind it, or why they could
+    // Of words, the first being the program's own name: how many are after it, or why they could
     // not be read.
     fn told(alloc: Global, words: &[&[u8]]) -> Result<usize, Unread> {
         let rt = (MemWords { words }, alloc);

@@ -23,7 +23,7 @@ fn put_number(text: &mut Text, before: &[u8], n: u32, behind: &[u8]) -> Result<(
     text.extend(behind)
 }
 
-// What is wrong with them, behind the name of a program.
+// What is wrong with them, after the name of a program.
 fn put_text(text: &mut Text, unread: Unread) -> Result<(), Memory>
     ensures { OnOk result (text.new ≡ text.old ++ unread_text unread) }
 {

@@ -32,7 +32,7 @@ pub record AreSoundInputs (inputs : Inputs) : Type 0 where
   pub unused : All (λ n. All (λ s. (s.format ≡ None) × (s.buffers ≡ None)) n.ports) inputs.ports
   pub waves : HaveWaves inputs.ports inputs.waves
 
--- sound after a line too, with the node that it made behind the others
+-- sound after a line too, with the node that it made after the others
 pub record AreInputsAfter (inputs : Inputs) (made : Option Kind) (after : Inputs) : Type 0 where
   pub sound : AreSoundInputs after
   pub kinds : map (λ n. n.kind) after.ports
