@@ -1,4 +1,4 @@
 pub mod Dealt
 pub mod Places
 pub mod Starting
-pub mod Tasks
+pub mod working

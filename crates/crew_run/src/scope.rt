@@ -1,7 +1,7 @@
 //! A run by several threads.
 ghost use Rattle.std.specs.Prelude.{◌≡◌, All, length};
 ghost use Rattle.crew_run.specs.Places.{HavePlaces};
-ghost use Rattle.crew_run.specs.Tasks.{CanBegin};
+ghost use Rattle.crew_run.specs.working.Tasks.{CanBegin};
 
 use crate::crew::Crew;
 use crate::joining::{join_all, members_of};

@@ -1,0 +1,2 @@
+-- What a run begins with, within the crate. Source: this project's own.
+pub mod Tasks
