@@ -63,10 +63,10 @@ module _ {S : Type 0} (m : Statuses S) where
       (record { stop = tt; files = inr (inl (short_store w.stores w.text b.held n.held d)); text = inr l }, tt)
   stop_line w b n status E.Refused d l = absurd d
 
-  -- the stores stopped, and memory was short for the line
+  -- the stores stopped, and memory was short for the line; the line of that was put or not
   stop_short : (w : Work) (b n : Outside) (stop status : S) (end : End)
-      → StoresStop m stop w.stores b.store_faults n.store_faults b.held n.held end → m.line stop ≢ [] → n.given ≡ b.given
-      → Ended w b n status E.Memory
+      → StoresStop m stop w.stores b.store_faults n.store_faults b.held n.held end → m.line stop ≢ []
+      → (n.given ≡ b.given) ⊎ GaveLine (m.line status) b.put_faults n.put_faults b.given n.given → Ended w b n status E.Memory
   stop_short w b n stop status E.Done d lined f = absurd d
   stop_short w b n stop status (E.Usage word) d lined f = absurd d
   stop_short w b n stop status (E.ReadFault place) d lined f = absurd d
@@ -74,13 +74,13 @@ module _ {S : Type 0} (m : Statuses S) where
     record {
       stop = tt;
       files = inr (inr (record { place = place; cut = d.1; rose = d.2; lined = subst (λ s. m.line s ≢ []) d.0 lined }));
-      text = inl f;
+      text = f;
     },
     tt,
   )
   stop_short w b n stop status E.PutFault d lined f = absurd d
   stop_short w b n stop status E.Memory d lined f =
-      (record { stop = tt; files = inr (inl (short_store w.stores w.text b.held n.held d)); text = inl f }, tt)
+      (record { stop = tt; files = inr (inl (short_store w.stores w.text b.held n.held d)); text = f }, tt)
   stop_short w b n stop status E.Refused d lined f = absurd d
 
   pub text_finished : (w : Work) (b n : Outside) (status : S) → AllStored w.stores b.held n.held
@@ -122,6 +122,11 @@ module _ {S : Type 0} (m : Statuses S) where
   line_later line p p1 p' g g1 g' l e (inl x) = inl (subst (λ o. Gave line o g') e x)
   line_later line p p1 p' g g1 g' l e (inr x) = inr (subst (λ o. GavePart line o g') e x.0, rose_later p p1 p' l x.1)
 
+  memory_later : (line : List ℕ) (p p1 p' : ℕ) (g g1 g' : Given) → p ≤ p1 → g1 ≡ g → (g' ≡ g1) ⊎ GaveLine line p1 p' g1 g'
+      → (g' ≡ g) ⊎ GaveLine line p p' g g'
+  memory_later line p p1 p' g g1 g' l e (inl x) = inl (x ∙ e)
+  memory_later line p p1 p' g g1 g' l e (inr x) = inr (line_later line p p1 p' g g1 g' l e x)
+
   pub text_short : (text : List ℕ) (p p1 p' : ℕ) (g g1 g' : Given) (e status : S) → p ≤ p1 → text ≢ [] → g1 ≡ g → m.means e ≡ E.Memory
       → LineEnds m e p1 p' g1 g' status → TextEnds m text p p' g g' status
   text_short text p p1 p' g g1 g' e status l some same is (inl x) = subst (λ s. TextEnds m text p p' g g' s) (sym x.0) (record {
@@ -129,6 +134,6 @@ module _ {S : Type 0} (m : Statuses S) where
     end = subst (λ end. IsTextEnd m.done e text p p' end) (sym is) some;
   })
   text_short text p p1 p' g g1 g' e status l some same is (inr x) = record {
-    given = subst (λ end. TextFollows text (m.line status) p p' g g' end) (sym x.0) (inl (x.2 ∙ same));
+    given = subst (λ end. TextFollows text (m.line status) p p' g g' end) (sym x.0) (memory_later (m.line status) p p1 p' g g1 g' l same x.2);
     end = subst (λ end. IsTextEnd m.done status text p p' end) (sym x.0) some;
   }

@@ -17,10 +17,10 @@ use Rattle.command_frame.specs.Headline.{FollowsTo, Follows, IsNoFault}
 use Rattle.command_frame.specs.Outside.{Outside}
 
 module _ {S : Type 0} (m : Statuses S) where
-  -- memory was short, and nothing was done
-  lost : (a : Answer S) (b n : Outside) (status : S) → m.means status ≡ E.Memory → n.held ≡ b.held → n.given ≡ b.given
-      → Follows m a b n status
-  lost a b n status is e f = subst (λ end. FollowsTo m a b n status end) (sym is) (record { stop = tt; files = inl e; text = inl f })
+  -- memory was short, and nothing was done but its line
+  lost : (a : Answer S) (b n : Outside) (status : S) → m.means status ≡ E.Memory → n.held ≡ b.held
+      → (n.given ≡ b.given) ⊎ GaveLine (m.line status) b.put_faults n.put_faults b.given n.given → Follows m a b n status
+  lost a b n status is e f = subst (λ end. FollowsTo m a b n status end) (sym is) (record { stop = tt; files = inl e; text = f })
 
   -- a refusal, and its line
   refusal_line : (a : Answer S) (b n : Outside) (f f' : ℕ) (status : S) (end : End) → StopsAt a status end → IsRefusal f f' end

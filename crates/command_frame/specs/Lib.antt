@@ -7,4 +7,5 @@ pub mod Following
 pub mod FaultCauses
 pub mod Headline
 pub mod Outside
+pub mod Keeping
 pub mod working

@@ -1,13 +1,13 @@
 //! The stores and the text of an accepted command, and the line of any other end.
-ghost use Rattle.std.specs.Prelude.{◌≡◌, ◌≤◌, IfOk, All};
+ghost use Rattle.std.specs.Prelude.{◌≡◌, ◌≤◌, [], IfOk, All};
 ghost use Rattle.pw_outside.specs.Files.{IsStored};
 ghost use Rattle.pw_outside.specs.Causes.{HasCause};
 ghost use Rattle.wav_files.specs.WavWriting.{IsWave, wav_bytes};
 ghost use Rattle.command_frame.specs.Stores.{bytes_of};
 ghost use Rattle.command_frame.specs.Outside.{outside};
-ghost use Rattle.command_frame.specs.working.Delivery.{StoresDone, TextDone, LineEnds, TextEnds};
+ghost use Rattle.command_frame.specs.working.Delivery.{StoresDone, TextDone, TextEnds};
 ghost use Rattle.command_frame.specs.working.Ending.{CanBeWritten, IsStorable};
-ghost use Rattle.command_frame.specs.working.Finishing.{Finished, CanBeDelivered};
+ghost use Rattle.command_frame.specs.working.Finishing.{Finished, CanBeDelivered, StoresNothing};
 
 use crate::ending::Ending;
 use crate::work::{Content, Store, Work};
@@ -58,6 +58,7 @@ fn store_all<S: Ending, F: Files>(alloc: Global, files: &mut F, stores: &[Store]
         (F.store_faults files.new) (F.held files.old) (F.held files.new) result }
     ensures later { F.store_faults files.old ≤ F.store_faults files.new }
     ensures loads { F.load_faults files.new ≡ F.load_faults files.old }
+    ensures none { stores.now ≡ [] → files.new ≡ files.old }
 {
     for i in 0..stores.len() {
         let store = &stores[i];
@@ -82,19 +83,6 @@ fn put_text<O: Sink>(alloc: Global, out: &mut O, text: &[u8]) -> Result<(), File
     out.put(alloc, text)
 }
 
-// Puts the line of a status. A put that fails leaves the status, and lack of memory is the status
-// then.
-fn end_line<S: Ending, O: Sink>(alloc: Global, out: &mut O, status: S) -> S
-    ensures ends { LineEnds S.statuses status (O.faults out.old) (O.faults out.new)
-        (O.given out.old) (O.given out.new) result }
-    ensures later { O.faults out.old ≤ O.faults out.new }
-{
-    match status.put_line(alloc, out) {
-        Err(FileFail::Memory) => S::memory(),
-        _ => status,
-    }
-}
-
 // Puts the text of accepted work, and where memory was short for it the line of that.
 fn end_text<S: Ending, O: Sink>(alloc: Global, out: &mut O, text: &[u8]) -> S
     ensures ends { TextEnds S.statuses text.now (O.faults out.old) (O.faults out.new)
@@ -104,7 +92,10 @@ fn end_text<S: Ending, O: Sink>(alloc: Global, out: &mut O, text: &[u8]) -> S
     match put_text(alloc, out, text) {
         Ok(()) => S::done(),
         Err(FileFail::Failed) => S::put_fault(),
-        Err(FileFail::Memory) => end_line(alloc, out, S::memory()),
+        Err(FileFail::Memory) => {
+            let memory: S = S::memory();
+            memory.put_line(alloc, out)
+        }
     }
 }
 
@@ -112,8 +103,8 @@ fn end_text<S: Ending, O: Sink>(alloc: Global, out: &mut O, text: &[u8]) -> S
 /// status.
 ///
 /// Nothing is stored after a failed store, and nothing is put after a failed put. Lack of memory is
-/// the status where it ended the stores or the text, or where it kept a line from being put. Takes
-/// memory for the file of a wave that is stored.
+/// the status where it ended the stores or the text, or where it kept a line from being put. Where
+/// there are no stores, the files are as before. Takes memory for the file of a wave that is stored.
 pub fn finish<S: Ending, F: Files, O: Sink>(
     alloc: Global,
     files: &mut F,
@@ -126,11 +117,12 @@ pub fn finish<S: Ending, F: Files, O: Sink>(
     ensures later { F.store_faults files.old ≤ F.store_faults files.new }
     ensures later_put { O.faults out.old ≤ O.faults out.new }
     ensures loads { F.load_faults files.new ≡ F.load_faults files.old }
+    ensures none { StoresNothing made → files.new ≡ files.old }
 {
     match made {
-        Err(status) => end_line(alloc, out, status),
-        Ok(work) => match store_all(alloc, files, work.stores.as_slice()) {
-            Err(status) => end_line(alloc, out, status),
+        Err(status) => status.put_line(alloc, out),
+        Ok(work) => match store_all::<S, F>(alloc, files, work.stores.as_slice()) {
+            Err(status) => status.put_line(alloc, out),
             Ok(()) => end_text(alloc, out, work.text.as_slice()),
         },
     }

@@ -1,9 +1,7 @@
 //! What a status is to the frame, whatever the program.
-ghost use Rattle.std.specs.Prelude.{◌≡◌, ◌≤◌, [], Ok};
-ghost use Rattle.pw_outside.specs.Causes.{HasCause};
-ghost use Rattle.pw_outside.specs.Output.{IsPut};
+ghost use Rattle.std.specs.Prelude.{◌≡◌, ◌≤◌, []};
 
-use pw_outside::{FileFail, Sink};
+use pw_outside::Sink;
 use std::alloc::Global;
 
 /// What a status is to the frame. A place is a line of a script, or the index of a word.
@@ -30,6 +28,7 @@ pub enum End {
 pub trait Ending: Copy + Drop {
     ghost use Rattle.command_frame.specs.declared.ending.End.TheVariants as E;
     ghost use Rattle.command_frame.specs.Statuses.{Statuses};
+    ghost use Rattle.command_frame.specs.working.Delivery.{LineEnds};
 
     ghost statuses: { Statuses Self };
 
@@ -63,11 +62,11 @@ pub trait Ending: Copy + Drop {
         ensures value { result ≡ statuses.memory }
         ensures end { statuses.means result ≡ E.Memory };
 
-    /// Puts its line; where that is empty, nothing. Of an end that is done, or a put that failed,
-    /// no line is put.
-    fn put_line<O: Sink>(self, alloc: Global, out: &mut O) -> Result<(), FileFail>
-        ensures given { IsPut (statuses.line self) (O.given out.old) (O.given out.new) result }
+    /// Puts its line; where that is empty, nothing. A put that fails leaves the status. Where memory
+    /// is short for the line, lack of memory is the status then, and its line may be put.
+    fn put_line<O: Sink>(self, alloc: Global, out: &mut O) -> Self
+        ensures ends { LineEnds statuses self (O.faults out.old) (O.faults out.new)
+            (O.given out.old) (O.given out.new) result }
         ensures later { O.faults out.old ≤ O.faults out.new }
-        ensures cause { HasCause (O.faults out.old) (O.faults out.new) result }
-        ensures none { statuses.line self ≡ [] → (result ≡ Ok tt) × (out.new ≡ out.old) };
+        ensures none { statuses.line self ≡ [] → out.new ≡ out.old };
 }

@@ -1,4 +1,4 @@
-//! A load, as the commands of every program make it.
+//! A load of a command.
 ghost use Rattle.std.specs.Prelude.{◌≡◌, ◌≤◌, length};
 ghost use Rattle.command_frame.specs.declared.ending.End.TheVariants as E;
 ghost use Rattle.command_frame.specs.Allowed.{IsLoad};

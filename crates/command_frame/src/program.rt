@@ -24,6 +24,7 @@ pub trait Program<S: Ending, Q> {
     ghost use Rattle.std.specs.Prelude.{ℕ, Result};
     ghost use Rattle.pw_outside.specs.Files.{Names};
     ghost use Rattle.command_frame.specs.Answer.{Answer};
+    ghost use Rattle.command_frame.specs.declared.work.Work.{Work};
     ghost use Rattle.command_frame.specs.Words.{Words};
 
     // The request of words, or the first word at fault.
@@ -35,6 +36,9 @@ pub trait Program<S: Ending, Q> {
     // The answers that are allowed: by the program before and after, by the request, and by what
     // the files hold.
     ghost answers: { Self → Self → Q → Names → Answer S → Type 0 };
+
+    // What its requests leave to store and to put, whether the files are reported or not.
+    ghost delivers: { Work → Type 0 };
 
     /// The request of the words of a command line.
     fn read(alloc: Global, words: &[String]) -> Result<Q, Misread>
@@ -49,5 +53,6 @@ pub trait Program<S: Ending, Q> {
         ensures told { Tells S.statuses (F.held files.old)
             (answers self.old self.new request) result }
         ensures cause { CommandCause S.statuses (IsDeliverable S.statuses)
-            (F.load_faults files.old) (F.load_faults files.new) result };
+            (F.load_faults files.old) (F.load_faults files.new) result }
+        ensures work { IfOk result delivers };
 }

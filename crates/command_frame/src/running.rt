@@ -1,7 +1,8 @@
 //! The call that does what the words of a command line ask for.
-ghost use Rattle.std.specs.Prelude.{map, string_bytes};
+ghost use Rattle.std.specs.Prelude.{map, string_bytes, IfOk};
 ghost use Rattle.command_frame.specs.FaultCauses.{Caused, IsUsage};
 ghost use Rattle.command_frame.specs.Headline.{IsAnswer, IsTold, IsComplete};
+ghost use Rattle.command_frame.specs.Keeping.{HasNoStores, KeepsFiles};
 ghost use Rattle.command_frame.specs.Outside.{outside};
 ghost use Rattle.command_frame.specs.working.Ending.{PrepareCause, IsDeliverable};
 ghost use Rattle.command_frame.specs.working.Preparing.{LoadsOnly, Tells, IsPreparedUsage};
@@ -28,6 +29,7 @@ fn prepare_words<S: Ending, Q, P: Program<S, Q>, F: Files>(
     ensures cause { PrepareCause S.statuses (IsDeliverable S.statuses)
         (F.load_faults files.old) (F.load_faults files.new) result }
     ensures usage { IsPreparedUsage S.statuses (P.asks (map string_bytes words.now)) result }
+    ensures work { IfOk result P.delivers }
 {
     match P::read(alloc, words) {
         Err(Misread::Word(word)) => Err(S::usage(word)),
@@ -67,6 +69,10 @@ pub fn run<S: Ending, Q, P: Program<S, Q>, F: Files, O: Sink>(
         (P.asks (map string_bytes words.now)) (P.answers program.old program.new))
         (outside F.Files O.Sink files.old out.old) (outside F.Files O.Sink files.new out.new)
         result }
+
+    // A program that stores nothing leaves what the files hold.
+    ensures kept { HasNoStores P.delivers → KeepsFiles (outside F.Files O.Sink files.old out.old)
+        (outside F.Files O.Sink files.new out.new) }
 {
     let made = prepare_words(program, alloc, words, files);
     finish(alloc, files, out, made)

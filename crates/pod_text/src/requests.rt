@@ -140,6 +140,8 @@ impl Program<Status, Request> for Pods {
 
     ghost answers = { λ old new request names a. IsAnswerTo new.line request names a };
 
+    ghost delivers = { λ work. Unit {0} };
+
     fn read(alloc: Global, words: &[String]) -> Result<Request, Misread> {
         read_words(alloc, words)
     }

@@ -5,7 +5,7 @@ ghost use Rattle.pod_text.specs.Statuses.{status_number};
 use crate::fault::ListWhy;
 use command_frame::Ending;
 use dump_reading::DumpWhy;
-use pw_outside::{FileFail, Sink};
+use pw_outside::Sink;
 use std::alloc::Global;
 
 /// How a call ended. A place is a word of the command line, counted from 0.
@@ -88,7 +88,7 @@ impl Ending for Status {
         Status::Memory
     }
 
-    fn put_line<O: Sink>(self, _alloc: Global, _out: &mut O) -> Result<(), FileFail> {
-        Ok(())
+    fn put_line<O: Sink>(self, _alloc: Global, _out: &mut O) -> Status {
+        self
     }
 }

@@ -34,11 +34,12 @@ TextDone text before now old new (Ok done) = Gave text old new
 TextDone text before now old new (Err F.Failed) = GavePart text old new × Rose before now
 TextDone text before now old new (Err F.Memory) = (text ≢ []) × (new ≡ old)
 
--- the line of a status was put, or memory was short for it
+-- the line of a status was put; or memory was short for it, and the line of that was put or nothing
 abbrev pub LineEnds : {S : Type 0} → Statuses S → S → ℕ → ℕ → Given → Given → S → Type 0
 LineEnds statuses status before now old new result =
     ((result ≡ status) × GaveLine (statuses.line status) before now old new)
-    ⊎ ((statuses.means result ≡ E.Memory) × (statuses.line status ≢ []) × (new ≡ old))
+    ⊎ ((statuses.means result ≡ E.Memory) × (statuses.line status ≢ [])
+    × ((new ≡ old) ⊎ GaveLine (statuses.line result) before now old new))
 
 -- what ends the text of accepted work: all is done, or a put failed, or memory was short
 abbrev pub IsTextEnd : {S : Type 0} → S → S → List ℕ → ℕ → ℕ → End → Type 0

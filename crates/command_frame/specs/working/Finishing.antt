@@ -36,6 +36,11 @@ Finished statuses (Ok work) before now status = WorkFinished statuses work befor
 Finished statuses (Err e) before now status = (now.held ≡ before.held)
     × LineEnds statuses e before.put_faults now.put_faults before.given now.given status
 
+-- a refusal, or work without a store
+abbrev pub StoresNothing : {S : Type 0} → Result Work S → Type 0
+StoresNothing (Ok work) = work.stores ≡ []
+StoresNothing (Err status) = Unit {0}
+
 abbrev pub CanBeDelivered : {S : Type 0} → Statuses S → Result Work S → Type 0
 CanBeDelivered statuses (Ok work) = IsDeliverable statuses work
 CanBeDelivered statuses (Err status) = Unit {0}

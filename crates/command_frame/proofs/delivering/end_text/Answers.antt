@@ -9,5 +9,5 @@ pub returns-in-Err-Memory-clause-ends : goal.returns-in-Err-Memory-clause-ends
 returns-in-Err-Memory-clause-ends g c =
     let short = subst (λ (e : FileFail). TextDone c.args.text.now (g.O.Sink.faults c.args.out.now) (g.O.Sink.faults c.put_text.new.out)
     (g.O.Sink.given c.args.out.now) (g.O.Sink.given c.put_text.new.out) (Err e)) c.in-Err-Memory.field-0-is c.in-Err-Memory.ensures.done in
-    text_short g.S.Ending.statuses c.args.text.now _ _ _ _ _ _ c.memory.result c.end_line.result c.in-Err-Memory.ensures.later short.0 short.1
-    c.memory.ensures.end c.end_line.ensures.ends
+    text_short g.S.Ending.statuses c.args.text.now _ _ _ _ _ _ c.memory-memory.result c.put_line.result c.in-Err-Memory.ensures.later short.0 short.1
+    c.memory-memory.ensures.end c.put_line.ensures.ends

@@ -6,6 +6,6 @@ pub returns-in-Err-store_all-clause-finished : goal.returns-in-Err-store_all-cla
 returns-in-Err-store_all-clause-finished g c =
     stop_made g.S.Ending.statuses c.args.made c.in-Ok.work c.as_slice.result.now
     (outside g.F.Files g.O.Sink c.args.files.now c.args.out.now)
-    (outside g.F.Files g.O.Sink c.store_all.new.files c.end_line-in-Err-store_all.new.out)
-    c.in-Err-store_all.status c.end_line-in-Err-store_all.result c.in-Ok.is c.as_slice.ensures c.in-Err-store_all.ensures.done
-    c.end_line-in-Err-store_all.ensures.ends
+    (outside g.F.Files g.O.Sink c.store_all.new.files c.put_line-in-Err-store_all.new.out)
+    c.in-Err-store_all.status c.put_line-in-Err-store_all.result c.in-Ok.is c.as_slice.ensures c.in-Err-store_all.ensures.done
+    c.put_line-in-Err-store_all.ensures.ends

@@ -1,6 +1,7 @@
-use Rattle.std.proofs.Common.{refl, rules}
+use Rattle.std.proofs.Common.{refl, ap, ◌∙◌, rules}
 use Rattle.command_frame.specs.Outside.{outside}
 use Rattle.command_frame.proofs.HeadlineLemmas.{follows, kept, no_fault, complete}
+use Rattle.command_frame.proofs.KeepingLemmas.{stores_nothing}
 use Rattle.command_frame.proofs.running.run.Goals as goal
 
 pub returns-clause-told : goal.returns-clause-told
@@ -30,4 +31,13 @@ returns-clause-complete g c = λ none.
       answer = λ h.
           let t = returns-clause-told g c h in
           (t.0, t.1, complete g.S.Ending.statuses t.0 before end c.finish.result t.2 plain);
+    }
+
+pub returns-clause-kept : goal.returns-clause-kept
+returns-clause-kept g c = λ none.
+    let p = c.prepare_words-made.ensures in
+    let same = c.finish.ensures.none (stores_nothing g.P.Program.delivers c.prepare_words-made.result none p.work) in
+    record {
+      held = ap g.F.Files.held same ∙ p.files.held;
+      stores = ap g.F.Files.store_faults same ∙ p.files.stores;
     }
