@@ -1,47 +1,66 @@
--- Laws of `specs/Answers.antt`: a script's names are such as lines can name; what is read after a
--- script; words that are refused.
-use Rattle.std.proofs.Common.{◌≡◌, ℕ, ◌&&◌, true, false, List, [], ◌∷◌, length, refl, sym, ap, ◌∙◌, subst, IsTrue}
-use Rattle.std.specs.Prelude.{Result, Err, IsSome, All, nat_le}
+-- Laws of `specs/Answers.antt`: a script's names are such as lines can name; what is drawn of a file that was loaded.
+use Rattle.std.proofs.Common.{◌≡◌, ℕ, List, [], ap, refl, subst}
+use Rattle.std.specs.Prelude.{Result, Ok, Err, IsSome}
 use Rattle.pw_outside.specs.Files.{Names, Held, names_in}
+use Rattle.command_frame.specs.declared.work.Store.{Store}
+use Rattle.command_frame.specs.declared.work.Work.{Work}
+use Rattle.command_frame.specs.Allowed.{Reads, Binds}
+use Rattle.command_frame.specs.Answer.{Expected}
+use Rattle.command_frame.specs.working.Ending.{Ends, CommandCause}
+use Rattle.command_frame.proofs.AllowedLemmas.{binds_goes, binds_stops, part_quiet}
 use Rattle.cycle_trace.specs.TraceReading.{AreNames}
 use Rattle.graph_script.specs.declared.script.Script.{Script}
-use Rattle.graph_script.specs.Order.{HasOrder}
-use Rattle.graph_script.specs.Ranges.{HasRanges}
 use Rattle.graph_script.proofs.NameLemmas.{name_whole}
 use Rattle.graph_pictures.specs.declared.status.Status.{Status}
-use Rattle.graph_pictures.specs.declared.status.Status.TheVariants as S
-use Rattle.graph_pictures.specs.Reading.{IsScript}
-use Rattle.graph_pictures.specs.Words.{request_of, IsRead}
-use Rattle.graph_pictures.specs.Answers.{ReadsTrace, IsTracePicture, IsAnswer}
-use Rattle.graph_pictures.specs.Answers.IsTracePicture.{told}
-use Rattle.graph_pictures.specs.Answers.IsAnswer.{usage, short}
+use Rattle.graph_pictures.specs.declared.words.Request.{Request}
+use Rattle.graph_pictures.specs.Answers.{IsRunDrawn, IsPicture, IsPut, IsAnswerTo}
+use Rattle.graph_pictures.specs.Reading.{IsScriptRead, IsTraceDrawn}
+use Rattle.graph_pictures.specs.Statuses.{statuses}
+use Rattle.graph_pictures.specs.working.Sound.{IsSoundScript, Anything}
 
 -- the names of a script
-pub script_names : (script : Script) → HasRanges script → HasOrder script → AreNames script.names
-script_names script ranges order = record {
-  few = ranges.count;
-  each = λ k d lt. record { whole = name_whole _ (ranges.names k d lt); other = order.other k d lt };
-  distinct = order.distinct;
+pub script_names : (script : Script) → IsSoundScript script → AreNames script.names
+script_names script sound = record {
+  few = sound.ranges.count;
+  each = λ k d lt. record { whole = name_whole _ (sound.ranges.names k d lt); other = sound.order.other k d lt };
+  distinct = sound.order.distinct;
 }
 
--- a trace that is read after the script, from files that hold the same
-pub trace_after : (Draws : Script → List ℕ → Result (List ℕ) Status → Type 0) (held held' : Held) (script trace : List ℕ) (s : Script)
-    (r : Result (List ℕ) Status) → held' ≡ held → IsScript (names_in held script) s
-    → (IsSome held' → ReadsTrace (Draws s) (names_in held' trace) r) → IsSome held
-    → IsTracePicture Draws (names_in held script) (names_in held trace) r
-trace_after Draws held held' script trace s r same is read h =
-    told s is (subst (λ (k : Held). IsSome k → ReadsTrace (Draws s) (names_in k trace) r) same read h)
+-- what is made of what was read first, by itself
+module _ {T U : Type 0} (First : Expected Status T → Type 0) (Makes : T → Result U Status → Type 0) where
+  abbrev Next : T → Expected Status U → Type 0
+  Next x = Reads statuses (Makes x)
 
--- words that are refused
-pub refused_words : (names : Names) (words : List (List ℕ)) (status : Status) → IsRead (request_of words) (Err status)
-    → IsAnswer names words (Err status)
-refused_words names words S.Ok h = absurd h
-refused_words names words (S.Usage word) h = usage (S.Usage word) h refl
-refused_words names words (S.Script line why) h = absurd h
-refused_words names words (S.Line number) h = absurd h
-refused_words names words (S.Wav place why) h = absurd h
-refused_words names words (S.Absent place) h = absurd h
-refused_words names words (S.ReadFault place) h = absurd h
-refused_words names words S.WriteFault h = absurd h
-refused_words names words (S.Limit place which) h = absurd h
-refused_words names words S.Memory h = short refl
+  pub made_stops : (status : Status) → Ends statuses First (Err status) → Ends statuses (Binds statuses First Next) (Err status)
+  made_stops status h = binds_stops statuses First Next status h
+
+  pub made_goes : (Has : U → Type 0) (x seen : T) (r : Result U Status) → Ends statuses First (Ok x) → seen ≡ x → Makes seen r
+      → CommandCause statuses Has 0 0 r → Ends statuses (Binds statuses First Next) r
+  made_goes Has x seen r h same made cause = binds_goes statuses First Next x r h
+      (part_quiet statuses [] (Makes x) Has r (subst (λ (y : T). Makes y r) same made) cause)
+
+-- a picture of a trace: the script is refused, or the trace is read after it, from files that hold the same
+module _ (Draws : Script → List ℕ → Result (List ℕ) Status → Type 0) where
+  abbrev Then : List ℕ → Names → Script → Expected Status (List ℕ) → Type 0
+  Then trace names s = IsTraceDrawn (Draws s) trace names
+
+  pub script_stops : (script trace : List ℕ) (names : Names) (status : Status) → Ends statuses (IsScriptRead script names) (Err status)
+      → Ends statuses (IsRunDrawn Draws script trace names) (Err status)
+  script_stops script trace names status h = binds_stops statuses (IsScriptRead script names) (Then trace names) status h
+
+  pub trace_after : (held held' : Held) (script trace : List ℕ) (s : Script) (r : Result (List ℕ) Status) → held' ≡ held
+      → Ends statuses (IsScriptRead script (names_in held)) (Ok s)
+      → (IsSome held' → Ends statuses (IsTraceDrawn (Draws s) trace (names_in held')) r) → IsSome held
+      → Ends statuses (IsRunDrawn Draws script trace (names_in held)) r
+  trace_after held held' script trace s r same is read h =
+      binds_goes statuses (IsScriptRead script (names_in held)) (Then trace (names_in held)) s r is
+      (subst (λ (k : Held). IsSome k → Ends statuses (IsTraceDrawn (Draws s) trace (names_in k)) r) same read h)
+
+-- a picture is put
+abbrev pub done_with : List Store → List ℕ → Result Work Status
+done_with stores text = Ok (record { stores = stores; text = text })
+
+pub picture_put : (request : Request) (names : Names) (text : List ℕ) (stores : List Store)
+    → Ends statuses (IsPicture request names) (Ok text) → stores ≡ [] → Ends statuses (IsAnswerTo request names) (done_with stores text)
+picture_put request names text stores h none = made_goes (IsPicture request names) IsPut Anything text text (done_with stores text) h refl
+    (ap (λ (xs : List Store). done_with xs text) none) tt

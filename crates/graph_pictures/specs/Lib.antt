@@ -1,5 +1,4 @@
 pub mod Bands
-pub mod Causes
 pub mod Answers
 pub mod Escaping
 pub mod Filling
@@ -11,6 +10,7 @@ pub mod Refusals
 pub mod Rows
 pub mod Sentences
 pub mod StatusText
+pub mod Statuses
 pub mod Strip
 pub mod Timeline
 pub mod TimelineText

@@ -1,5 +1,5 @@
 -- The number and the line of a status: those of `pipegraph`. The form is this project's own.
-use Rattle.std.specs.Prelude.{ℕ, List, [], ◌∷◌, codes}
+use Rattle.std.specs.Prelude.{ℕ, Bool, true, false, List, [], ◌∷◌, codes}
 use Rattle.pw_lists.specs.Quantities.{which_number}
 use Rattle.graph_script.specs.declared.fault.ScriptWhy.{ScriptWhy}
 use Rattle.graph_script.specs.declared.fault.ScriptWhy.TheVariants.{TooMany}
@@ -31,7 +31,13 @@ abbrev pub why_form : ScriptWhy → List ℕ
 why_form (TooMany which) = codes "script % % %\n"
 why_form why = codes "script % %\n"
 
--- THE LINE of a status; there is none where all was done, nor where a put failed
+-- whether a status has a line: not where all was done, nor where a put failed
+abbrev pub has_line : Status → Bool
+has_line S.Ok = false
+has_line S.WriteFault = false
+has_line status = true
+
+-- THE LINE of a status
 abbrev pub line_of : Status → List ℕ
 line_of S.Ok = []
 line_of (S.Usage word) = filled (codes "usage %\n") (word ∷ [])

@@ -1,14 +1,16 @@
--- What is drawn of a file as a wave, by what is in it; or how it is refused. Where a load
--- failed or memory was short, nothing is said of the file.
+-- What is drawn of a file as a wave, by what is in it; or how it is refused.
 -- Source: RIFF WAVE, PCM of 16 bits; the statuses are this project's own.
-use Rattle.std.specs.Prelude.{◌≡◌, ℕ, List, Option, Some, Result, Ok, Err}
+use Rattle.std.specs.Prelude.{◌≡◌, ℕ, List, Result, Ok, Err}
 use Rattle.pw_lists.specs.declared.limit.Which.TheVariants as W
 use Rattle.pw_lists.specs.Limits.{wav_bytes_limit}
+use Rattle.pw_outside.specs.Files.{Names}
+use Rattle.command_frame.specs.Allowed.{IsLoad, Reads, Binds}
+use Rattle.command_frame.specs.Answer.{Expected}
 use Rattle.wav_files.specs.declared.wav.Wav.{Wav}
 use Rattle.wav_files.specs.WavReading.{wav_of}
 use Rattle.graph_pictures.specs.declared.status.Status.{Status}
 use Rattle.graph_pictures.specs.declared.status.Status.TheVariants as S
-use Rattle.graph_pictures.specs.Reading.{IsUnloaded}
+use Rattle.graph_pictures.specs.Statuses.{statuses}
 use Rattle.graph_pictures.specs.WaveText.{wave_text}
 
 -- the place of a WAV file: the index of its word
@@ -22,11 +24,8 @@ DrawsWave bytes (Err (S.Wav place why)) = (place ≡ wave_place) × (wav_of byte
 DrawsWave bytes (Err S.Memory) = Unit {0}
 DrawsWave bytes (Err status) = ⊥
 
--- what is drawn of a file, or why it is refused
-abbrev pub IsWavePicture : Option (List ℕ) → Result (List ℕ) Status → Type 0
-IsWavePicture stands (Ok text) = (bytes : List ℕ) × (stands ≡ Some bytes)
-    × DrawsWave bytes (Ok text)
-IsWavePicture stands (Err (S.Wav place why)) = (bytes : List ℕ) × (stands ≡ Some bytes)
-    × DrawsWave bytes (Err (S.Wav place why))
-IsWavePicture stands (Err status) =
-    IsUnloaded stands wave_place wav_bytes_limit W.WavBytes status
+-- THE PICTURE of the wave of a file
+abbrev pub IsWaveDrawn : List ℕ → Names → Expected Status (List ℕ) → Type 0
+IsWaveDrawn name names = Binds statuses
+    (IsLoad statuses names wave_place name wav_bytes_limit (S.Limit wave_place W.WavBytes))
+    (λ bytes. Reads statuses (DrawsWave bytes))

@@ -1,70 +1,54 @@
 //! The whole program: the picture that words ask for, printed.
-ghost use Rattle.std.specs.Prelude.{◌≡◌, IsSome, map, string_bytes, List, ℕ, Result};
-ghost use Rattle.pw_outside.specs.Files.{names_in};
-ghost use Rattle.graph_pictures.specs.Answers.{IsAnswer, Puts, IsPrinted, PutsLine};
-ghost use Rattle.graph_pictures.specs.Causes.{IsCausedBy, HasCause, status_of, IsUsage};
+ghost use Rattle.std.specs.Prelude.{◌≡◌, map, string_bytes};
+ghost use Rattle.command_frame.specs.FaultCauses.{Caused, IsUsage};
+ghost use Rattle.command_frame.specs.Headline.{IsTold, IsComplete};
+ghost use Rattle.command_frame.specs.Outside.{outside};
+ghost use Rattle.graph_pictures.specs.Answers.{IsAnswered};
+ghost use Rattle.graph_pictures.specs.Statuses.{statuses};
 ghost use Rattle.graph_pictures.specs.Words.{request_of};
 
 use crate::reading::picture_of;
-use crate::status::{Status, put_status};
-use crate::words::read_words;
-use pw_lists::{Items, Text};
-use pw_outside::{FileFail, Files, Sink};
+use crate::status::Status;
+use crate::words::{Request, read_words};
+use command_frame::{Misread, Program, Work, run};
+use pw_lists::Items;
+use pw_outside::{Files, Sink};
 use std::alloc::Global;
 
-// The picture that words ask for, or why they are refused.
-fn answer_to<F: Files>(alloc: Global, words: &[String], files: &mut F) -> Result<Text, Status>
-    ensures told { IsSome (F.held files.old)
-        → IsAnswer (names_in (F.held files.old)) (map string_bytes words.now) result }
-    ensures cause { IsCausedBy (F.load_faults files.old) (F.load_faults files.new) result }
-    ensures usage { IsUsage (request_of (map string_bytes words.now)) (status_of result) }
-    ensures held { F.held files.new ≡ F.held files.old }
-    ensures stores { F.store_faults files.new ≡ F.store_faults files.old }
-{
-    match read_words(alloc, words) {
-        Err(status) => Err(status),
-        Ok(request) => picture_of(alloc, files, &request),
-    }
-}
+/// The program. It keeps nothing of a request.
+#[derive(Drop)]
+pub(crate) struct Pictures;
 
-// Puts bytes; the status is the first where they were given, the second after a failure.
-fn put_bytes<O: Sink>(
-    alloc: Global,
-    out: &mut O,
-    bytes: &[u8],
-    done: Status,
-    failed: Status,
-) -> Status
-    ensures { Puts bytes.now done failed (O.faults out.old) (O.faults out.new)
-        (O.given out.old) (O.given out.new) result }
-{
-    match out.put(alloc, bytes) {
-        Ok(()) => done,
-        Err(FileFail::Failed) => failed,
-        Err(FileFail::Memory) => Status::Memory,
-    }
-}
+impl Program<Status, Request> for Pictures {
+    ghost use Rattle.std.specs.Prelude.{◌≡◌, []};
+    ghost use Rattle.graph_pictures.specs.Answers.{IsAnswerTo};
+    ghost use Rattle.graph_pictures.specs.Words.{request_of};
 
-// Puts the line of a status. Where memory is short for it, that is the status.
-fn put_line<O: Sink>(alloc: Global, out: &mut O, status: Status) -> Status
-    ensures { PutsLine status (O.faults out.old) (O.faults out.new)
-        (O.given out.old) (O.given out.new) result }
-{
-    let mut line = Items::new(alloc);
-    match put_status(&mut line, status) {
-        Ok(()) => put_bytes(alloc, out, line.as_slice(), status, status),
-        Err(_memory) => put_bytes(alloc, out, b"memory\n", Status::Memory, Status::Memory),
-    }
-}
+    ghost asks = { request_of };
 
-// Prints an answer.
-fn print_answer<O: Sink>(alloc: Global, out: &mut O, answer: &Result<Text, Status>) -> Status
-    ensures { IsPrinted answer.now (O.faults out.old) (O.faults out.new)
-        (O.given out.old) (O.given out.new) result }
-{
-    match answer {
-        Ok(text) => put_bytes(alloc, out, text.as_slice(), Status::Ok, Status::WriteFault),
-        Err(status) => put_line(alloc, out, *status),
+    ghost is_sound = { λ request. Unit {0} };
+
+    ghost answers = { λ old new request names a. IsAnswerTo request names a };
+
+    ghost delivers = { λ work. work.stores ≡ [] };
+
+    fn read(alloc: Global, words: &[String]) -> Result<Request, Misread> {
+        read_words(alloc, words)
+    }
+
+    fn prepare<F: Files>(
+        &mut self,
+        alloc: Global,
+        request: Request,
+        files: &mut F,
+    ) -> Result<Work, Status> {
+        match picture_of(alloc, files, &request) {
+            Err(status) => Err(status),
+            Ok(text) => Ok(Work {
+                stores: Items::new(alloc),
+                text,
+            }),
+        }
     }
 }
 
@@ -73,32 +57,34 @@ fn print_answer<O: Sink>(alloc: Global, out: &mut O, answer: &Result<Text, Statu
 /// The words are those after the program's own name: `graph SCRIPT`, `graph SCRIPT TRACE`,
 /// `timeline SCRIPT TRACE` or `wave FILE`. Loads are made in this order, and nothing is stored. A
 /// script or a file is refused with the line and the status that `pipegraph` has for it, and of a
-/// trace with a line that is no event line that line's number is printed. Takes memory for the
-/// files and for the text.
+/// trace with a line that is no event line that line's number is printed. Where memory is short for
+/// a line, that of `Memory` is printed instead. Takes memory for the files and for the text.
 pub fn print_picture<F: Files, O: Sink>(
     alloc: Global,
     words: &[String],
     files: &mut F,
     out: &mut O,
 ) -> Status
-    // What is printed is the answer to the words, by what the files hold, where the files report
-    // it.
-    ensures told { IsSome (F.held files.old) → (answer : Result (List ℕ) Status)
-        × IsAnswer (names_in (F.held files.old)) (map string_bytes words.now) answer
-        × IsPrinted answer (O.faults out.old) (O.faults out.new) (O.given out.old)
-        (O.given out.new) result }
+    // The expected answer to the words, which the output and the status follow, where the files
+    // report what they hold.
+    ensures told { IsTold statuses (IsAnswered (map string_bytes words.now))
+        (outside F.Files O.Sink files.old out.old) (outside F.Files O.Sink files.new out.new)
+        result }
 
-    // A fault of a file or of the output is answered only where it counted one.
-    ensures cause { HasCause (F.load_faults files.old) (F.load_faults files.new)
-        (O.faults out.old) (O.faults out.new) result }
+    // Each fault has its cause outside, and Usage in the words, whether the files are reported or
+    // not.
+    ensures cause { Caused statuses (outside F.Files O.Sink files.old out.old)
+        (outside F.Files O.Sink files.new out.new) result }
+    ensures usage { IsUsage statuses (request_of (map string_bytes words.now)) result }
 
-    // Usage is answered exactly where the words are not in the grammar, or memory was short.
-    ensures usage { IsUsage (request_of (map string_bytes words.now)) result }
+    // Where no count of faults rose, the status is an expected answer's, or memory was short.
+    ensures complete { IsComplete statuses (IsAnswered (map string_bytes words.now))
+        (outside F.Files O.Sink files.old out.old) (outside F.Files O.Sink files.new out.new)
+        result }
 
     // The files hold what they held.
     ensures held { F.held files.new ≡ F.held files.old }
     ensures stores { F.store_faults files.new ≡ F.store_faults files.old }
 {
-    let answer = answer_to(alloc, words, files);
-    print_answer(alloc, out, &answer)
+    run(&mut Pictures, alloc, words, files, out)
 }

@@ -1,15 +1,14 @@
 //! What the files of a request are read as.
-ghost use Rattle.std.specs.Prelude.{◌≡◌, ◌≤◌, length, IsSome, IfOk};
-ghost use Rattle.pw_outside.specs.Files.{names_in};
+ghost use Rattle.std.specs.Prelude.{◌≤◌, length};
 ghost use Rattle.pw_lists.specs.Limits.{script_bytes_limit, wav_bytes_limit};
-ghost use Rattle.graph_script.specs.Order.{HasOrder};
-ghost use Rattle.graph_script.specs.Ranges.{HasRanges};
-ghost use Rattle.graph_pictures.specs.Reading.{IsLoad, ReadsScript, ParsesTo, trace_place, trace_bytes_limit};
-ghost use Rattle.pw_lists.specs.declared.limit.Which.TheVariants as W;
+ghost use Rattle.command_frame.specs.working.Ending.{CommandCause};
+ghost use Rattle.command_frame.specs.working.Preparing.{LoadsOnly, Tells};
+ghost use Rattle.graph_pictures.specs.Answers.{DrawsGraph, IsGraphDrawn, IsRunDrawn, IsPicture};
+ghost use Rattle.graph_pictures.specs.Reading.{ParsesTo, IsScriptRead, IsTraceLoad, IsTraceDrawn};
+ghost use Rattle.graph_pictures.specs.Statuses.{statuses};
 ghost use Rattle.graph_pictures.specs.TraceAnswers.{DrawsTrace, DrawsRun};
-ghost use Rattle.graph_pictures.specs.Answers.{IsGraph, ReadsTrace, IsTracePicture, IsPicture};
-ghost use Rattle.graph_pictures.specs.Causes.{IsCaused};
-ghost use Rattle.graph_pictures.specs.WaveReading.{DrawsWave, IsWavePicture};
+ghost use Rattle.graph_pictures.specs.WaveReading.{DrawsWave, IsWaveDrawn};
+ghost use Rattle.graph_pictures.specs.working.Sound.{IsSoundScript, Anything};
 
 use crate::graph_drawing::graph;
 use crate::status::Status;
@@ -17,10 +16,11 @@ use crate::timeline_drawing::timeline;
 use crate::trace_text::read_run;
 use crate::wave_drawing::wave;
 use crate::words::Request;
+use command_frame::load_step;
 use cycle_trace::TraceFault;
 use graph_script::{Script, ScriptFault, parse};
 use pw_lists::{Items, SCRIPT_BYTES_LIMIT, Text, WAV_BYTES_LIMIT, Which};
-use pw_outside::{FileFail, Files, Loaded};
+use pw_outside::Files;
 use std::alloc::Global;
 use wav_files::{WavFault, read_wav};
 
@@ -35,38 +35,11 @@ const TRACE_PLACE: u32 = u32::MAX;
 /// The bytes of a trace, at most.
 const TRACE_BYTES: u64 = 268_435_456;
 
-// Loads the file of this name, of at most `limit` bytes.
-fn load<F: Files>(
-    alloc: Global,
-    files: &mut F,
-    place: u32,
-    name: &Text,
-    limit: u64,
-    which: Which,
-) -> Result<Items<u8>, Status>
-    ensures told { IsSome (F.held files.old)
-        → IsLoad (names_in (F.held files.old) name.now) place limit which result }
-    ensures within { IfOk result (λ bytes. length bytes ≤ limit) }
-    ensures cause { IsCaused (F.load_faults files.old) (F.load_faults files.new) result }
-    ensures held { F.held files.new ≡ F.held files.old }
-    ensures stores { F.store_faults files.new ≡ F.store_faults files.old }
-    ensures later { F.load_faults files.old ≤ F.load_faults files.new }
-{
-    match files.load(alloc, name, limit) {
-        Ok(Loaded::Whole(bytes)) => Ok(bytes),
-        Ok(Loaded::Absent) => Err(Status::Absent { place }),
-        Ok(Loaded::TooLong) => Err(Status::Limit { place, which }),
-        Err(FileFail::Failed) => Err(Status::ReadFault { place }),
-        Err(FileFail::Memory) => Err(Status::Memory),
-    }
-}
-
 // The script that bytes are.
 fn parsed(alloc: Global, bytes: &[u8]) -> Result<Script, Status>
     requires small { length bytes.now ≤ script_bytes_limit }
     ensures read { ParsesTo bytes.now result }
-    ensures ranges { IfOk result HasRanges }
-    ensures order { IfOk result HasOrder }
+    ensures cause { CommandCause statuses IsSoundScript 0 0 result }
 {
     match parse(alloc, bytes) {
         Ok(script) => Ok(script),
@@ -77,50 +50,52 @@ fn parsed(alloc: Global, bytes: &[u8]) -> Result<Script, Status>
 
 // The script of a file.
 fn read_script<F: Files>(alloc: Global, files: &mut F, name: &Text) -> Result<Script, Status>
-    ensures told { IsSome (F.held files.old)
-        → ReadsScript (names_in (F.held files.old) name.now) result }
-    ensures ranges { IfOk result HasRanges }
-    ensures order { IfOk result HasOrder }
-    ensures cause { IsCaused (F.load_faults files.old) (F.load_faults files.new) result }
-    ensures held { F.held files.new ≡ F.held files.old }
-    ensures stores { F.store_faults files.new ≡ F.store_faults files.old }
-    ensures later { F.load_faults files.old ≤ F.load_faults files.new }
+    ensures files { LoadsOnly (F.held files.old) (F.held files.new) (F.load_faults files.old)
+        (F.load_faults files.new) (F.store_faults files.old) (F.store_faults files.new) }
+    ensures told { Tells statuses (F.held files.old) (IsScriptRead name.now) result }
+    ensures cause { CommandCause statuses IsSoundScript (F.load_faults files.old)
+        (F.load_faults files.new) result }
 {
-    match load(
-        alloc,
-        files,
-        SCRIPT_PLACE,
-        name,
-        SCRIPT_BYTES_LIMIT,
-        Which::ScriptBytes,
-    ) {
+    let long = Status::Limit {
+        place: SCRIPT_PLACE,
+        which: Which::ScriptBytes,
+    };
+    match load_step(alloc, files, SCRIPT_PLACE, name, SCRIPT_BYTES_LIMIT, long) {
         Err(status) => Err(status),
         Ok(bytes) => parsed(alloc, bytes.as_slice()),
     }
 }
 
+// The graph of a script, without a run.
+fn drawn_graph(alloc: Global, script: &Script) -> Result<Text, Status>
+    ensures drawn { DrawsGraph script.now result }
+    ensures cause { CommandCause statuses Anything 0 0 result }
+{
+    match graph(alloc, script, &[]) {
+        Ok(text) => Ok(text),
+        Err(_memory) => Err(Status::Memory),
+    }
+}
+
 // The picture of the graph of a script's file.
 fn read_graph<F: Files>(alloc: Global, files: &mut F, name: &Text) -> Result<Text, Status>
-    ensures told { IsSome (F.held files.old)
-        → IsGraph (names_in (F.held files.old) name.now) result }
-    ensures cause { IsCaused (F.load_faults files.old) (F.load_faults files.new) result }
-    ensures held { F.held files.new ≡ F.held files.old }
-    ensures stores { F.store_faults files.new ≡ F.store_faults files.old }
+    ensures files { LoadsOnly (F.held files.old) (F.held files.new) (F.load_faults files.old)
+        (F.load_faults files.new) (F.store_faults files.old) (F.store_faults files.new) }
+    ensures told { Tells statuses (F.held files.old) (IsGraphDrawn name.now) result }
+    ensures cause { CommandCause statuses Anything (F.load_faults files.old)
+        (F.load_faults files.new) result }
 {
     match read_script(alloc, files, name) {
         Err(status) => Err(status),
-        Ok(script) => match graph(alloc, &script, &[]) {
-            Ok(text) => Ok(text),
-            Err(_memory) => Err(Status::Memory),
-        },
+        Ok(script) => drawn_graph(alloc, &script),
     }
 }
 
 // The timeline of the events of a run's text.
 fn drawn_trace(alloc: Global, script: &Script, bytes: &[u8]) -> Result<Text, Status>
-    requires ranges { HasRanges script.now }
-    requires order { HasOrder script.now }
-    ensures { DrawsTrace script.now bytes.now result }
+    requires { IsSoundScript script.now }
+    ensures drawn { DrawsTrace script.now bytes.now result }
+    ensures cause { CommandCause statuses Anything 0 0 result }
 {
     match read_run(alloc, script.names(), bytes) {
         Err(TraceFault::Line(number)) => Err(Status::Line { number }),
@@ -134,9 +109,9 @@ fn drawn_trace(alloc: Global, script: &Script, bytes: &[u8]) -> Result<Text, Sta
 
 // The graph of a script, with what a run's text says of its links.
 fn drawn_run(alloc: Global, script: &Script, bytes: &[u8]) -> Result<Text, Status>
-    requires ranges { HasRanges script.now }
-    requires order { HasOrder script.now }
-    ensures { DrawsRun script.now bytes.now result }
+    requires { IsSoundScript script.now }
+    ensures drawn { DrawsRun script.now bytes.now result }
+    ensures cause { CommandCause statuses Anything 0 0 result }
 {
     match read_run(alloc, script.names(), bytes) {
         Err(TraceFault::Line(number)) => Err(Status::Line { number }),
@@ -150,39 +125,33 @@ fn drawn_run(alloc: Global, script: &Script, bytes: &[u8]) -> Result<Text, Statu
 
 // The bytes of the trace of a file.
 fn load_trace<F: Files>(alloc: Global, files: &mut F, name: &Text) -> Result<Items<u8>, Status>
-    ensures told { IsSome (F.held files.old)
-        → IsLoad (names_in (F.held files.old) name.now) trace_place trace_bytes_limit
-        W.TraceBytes result }
-    ensures cause { IsCaused (F.load_faults files.old) (F.load_faults files.new) result }
-    ensures held { F.held files.new ≡ F.held files.old }
-    ensures stores { F.store_faults files.new ≡ F.store_faults files.old }
-    ensures later { F.load_faults files.old ≤ F.load_faults files.new }
+    ensures files { LoadsOnly (F.held files.old) (F.held files.new) (F.load_faults files.old)
+        (F.load_faults files.new) (F.store_faults files.old) (F.store_faults files.new) }
+    ensures told { Tells statuses (F.held files.old) (IsTraceLoad name.now) result }
+    ensures cause { CommandCause statuses Anything (F.load_faults files.old)
+        (F.load_faults files.new) result }
 {
-    load(
-        alloc,
-        files,
-        TRACE_PLACE,
-        name,
-        TRACE_BYTES,
-        Which::TraceBytes,
-    )
+    let long = Status::Limit {
+        place: TRACE_PLACE,
+        which: Which::TraceBytes,
+    };
+    load_step(alloc, files, TRACE_PLACE, name, TRACE_BYTES, long)
 }
 
-// What is printed of the trace of a file.
+// The timeline of the trace of a file.
 fn read_trace<F: Files>(
     alloc: Global,
     files: &mut F,
     script: &Script,
     name: &Text,
 ) -> Result<Text, Status>
-    requires ranges { HasRanges script.now }
-    requires order { HasOrder script.now }
-    ensures told { IsSome (F.held files.old)
-        → ReadsTrace (DrawsTrace script.now) (names_in (F.held files.old) name.now) result }
-    ensures cause { IsCaused (F.load_faults files.old) (F.load_faults files.new) result }
-    ensures held { F.held files.new ≡ F.held files.old }
-    ensures stores { F.store_faults files.new ≡ F.store_faults files.old }
-    ensures later { F.load_faults files.old ≤ F.load_faults files.new }
+    requires { IsSoundScript script.now }
+    ensures files { LoadsOnly (F.held files.old) (F.held files.new) (F.load_faults files.old)
+        (F.load_faults files.new) (F.store_faults files.old) (F.store_faults files.new) }
+    ensures told { Tells statuses (F.held files.old)
+        (IsTraceDrawn (DrawsTrace script.now) name.now) result }
+    ensures cause { CommandCause statuses Anything (F.load_faults files.old)
+        (F.load_faults files.new) result }
 {
     match load_trace(alloc, files, name) {
         Err(status) => Err(status),
@@ -197,14 +166,13 @@ fn read_links<F: Files>(
     script: &Script,
     name: &Text,
 ) -> Result<Text, Status>
-    requires ranges { HasRanges script.now }
-    requires order { HasOrder script.now }
-    ensures told { IsSome (F.held files.old)
-        → ReadsTrace (DrawsRun script.now) (names_in (F.held files.old) name.now) result }
-    ensures cause { IsCaused (F.load_faults files.old) (F.load_faults files.new) result }
-    ensures held { F.held files.new ≡ F.held files.old }
-    ensures stores { F.store_faults files.new ≡ F.store_faults files.old }
-    ensures later { F.load_faults files.old ≤ F.load_faults files.new }
+    requires { IsSoundScript script.now }
+    ensures files { LoadsOnly (F.held files.old) (F.held files.new) (F.load_faults files.old)
+        (F.load_faults files.new) (F.store_faults files.old) (F.store_faults files.new) }
+    ensures told { Tells statuses (F.held files.old)
+        (IsTraceDrawn (DrawsRun script.now) name.now) result }
+    ensures cause { CommandCause statuses Anything (F.load_faults files.old)
+        (F.load_faults files.new) result }
 {
     match load_trace(alloc, files, name) {
         Err(status) => Err(status),
@@ -219,12 +187,12 @@ fn read_run_graph<F: Files>(
     script: &Text,
     trace: &Text,
 ) -> Result<Text, Status>
-    ensures told { IsSome (F.held files.old)
-        → IsTracePicture DrawsRun (names_in (F.held files.old) script.now)
-        (names_in (F.held files.old) trace.now) result }
-    ensures cause { IsCaused (F.load_faults files.old) (F.load_faults files.new) result }
-    ensures held { F.held files.new ≡ F.held files.old }
-    ensures stores { F.store_faults files.new ≡ F.store_faults files.old }
+    ensures files { LoadsOnly (F.held files.old) (F.held files.new) (F.load_faults files.old)
+        (F.load_faults files.new) (F.store_faults files.old) (F.store_faults files.new) }
+    ensures told { Tells statuses (F.held files.old) (IsRunDrawn DrawsRun script.now trace.now)
+        result }
+    ensures cause { CommandCause statuses Anything (F.load_faults files.old)
+        (F.load_faults files.new) result }
 {
     match read_script(alloc, files, script) {
         Err(status) => Err(status),
@@ -232,19 +200,19 @@ fn read_run_graph<F: Files>(
     }
 }
 
-// What is printed of the trace of a file, by the script of another.
+// The timeline of the trace of a file, by the script of another.
 fn read_timeline<F: Files>(
     alloc: Global,
     files: &mut F,
     script: &Text,
     trace: &Text,
 ) -> Result<Text, Status>
-    ensures told { IsSome (F.held files.old)
-        → IsTracePicture DrawsTrace (names_in (F.held files.old) script.now)
-        (names_in (F.held files.old) trace.now) result }
-    ensures cause { IsCaused (F.load_faults files.old) (F.load_faults files.new) result }
-    ensures held { F.held files.new ≡ F.held files.old }
-    ensures stores { F.store_faults files.new ≡ F.store_faults files.old }
+    ensures files { LoadsOnly (F.held files.old) (F.held files.new) (F.load_faults files.old)
+        (F.load_faults files.new) (F.store_faults files.old) (F.store_faults files.new) }
+    ensures told { Tells statuses (F.held files.old) (IsRunDrawn DrawsTrace script.now trace.now)
+        result }
+    ensures cause { CommandCause statuses Anything (F.load_faults files.old)
+        (F.load_faults files.new) result }
 {
     match read_script(alloc, files, script) {
         Err(status) => Err(status),
@@ -255,7 +223,8 @@ fn read_timeline<F: Files>(
 // The picture of the wave that bytes are.
 fn drawn_wave(alloc: Global, bytes: &[u8]) -> Result<Text, Status>
     requires { length bytes.now ≤ wav_bytes_limit }
-    ensures { DrawsWave bytes.now result }
+    ensures drawn { DrawsWave bytes.now result }
+    ensures cause { CommandCause statuses Anything 0 0 result }
 {
     match read_wav(alloc, bytes) {
         Err(WavFault::Memory) => Err(Status::Memory),
@@ -272,20 +241,17 @@ fn drawn_wave(alloc: Global, bytes: &[u8]) -> Result<Text, Status>
 
 // The picture of the wave of a file.
 fn read_wave<F: Files>(alloc: Global, files: &mut F, name: &Text) -> Result<Text, Status>
-    ensures told { IsSome (F.held files.old)
-        → IsWavePicture (names_in (F.held files.old) name.now) result }
-    ensures cause { IsCaused (F.load_faults files.old) (F.load_faults files.new) result }
-    ensures held { F.held files.new ≡ F.held files.old }
-    ensures stores { F.store_faults files.new ≡ F.store_faults files.old }
+    ensures files { LoadsOnly (F.held files.old) (F.held files.new) (F.load_faults files.old)
+        (F.load_faults files.new) (F.store_faults files.old) (F.store_faults files.new) }
+    ensures told { Tells statuses (F.held files.old) (IsWaveDrawn name.now) result }
+    ensures cause { CommandCause statuses Anything (F.load_faults files.old)
+        (F.load_faults files.new) result }
 {
-    match load(
-        alloc,
-        files,
-        WAVE_PLACE,
-        name,
-        WAV_BYTES_LIMIT,
-        Which::WavBytes,
-    ) {
+    let long = Status::Limit {
+        place: WAVE_PLACE,
+        which: Which::WavBytes,
+    };
+    match load_step(alloc, files, WAVE_PLACE, name, WAV_BYTES_LIMIT, long) {
         Err(status) => Err(status),
         Ok(bytes) => drawn_wave(alloc, bytes.as_slice()),
     }
@@ -297,11 +263,11 @@ pub(crate) fn picture_of<F: Files>(
     files: &mut F,
     request: &Request,
 ) -> Result<Text, Status>
-    ensures told { IsSome (F.held files.old)
-        → IsPicture (names_in (F.held files.old)) request.now result }
-    ensures cause { IsCaused (F.load_faults files.old) (F.load_faults files.new) result }
-    ensures held { F.held files.new ≡ F.held files.old }
-    ensures stores { F.store_faults files.new ≡ F.store_faults files.old }
+    ensures files { LoadsOnly (F.held files.old) (F.held files.new) (F.load_faults files.old)
+        (F.load_faults files.new) (F.store_faults files.old) (F.store_faults files.new) }
+    ensures told { Tells statuses (F.held files.old) (IsPicture request.now) result }
+    ensures cause { CommandCause statuses Anything (F.load_faults files.old)
+        (F.load_faults files.new) result }
 {
     match request {
         Request::Graph { script } => read_graph(alloc, files, script),

@@ -1,10 +1,15 @@
 //! How a call ended. The texts and the numbers are those of `pipegraph`.
-ghost use Rattle.std.specs.Prelude.{◌≡◌, ◌++◌, OnOk};
-ghost use Rattle.graph_pictures.specs.StatusText.{status_number, which_in, why_form, line_of};
+ghost use Rattle.std.specs.Prelude.{◌≡◌, ◌≢◌, ◌≤◌, [], ◌++◌, OnOk};
+ghost use Rattle.command_frame.specs.working.Delivery.{LineEnds};
+ghost use Rattle.graph_pictures.specs.Statuses.{statuses};
+ghost use Rattle.graph_pictures.specs.StatusText.{status_number, which_in, why_form, has_line, line_of};
 
 use crate::filling::fill;
+use command_frame::Ending;
 use graph_script::ScriptWhy;
-use pw_lists::{Memory, Text, Which};
+use pw_lists::{Items, Memory, Text, Which};
+use pw_outside::{FileFail, Sink};
+use std::alloc::Global;
 use wav_files::WavFault;
 
 /// How a call ended. A place is 0 for the script, 4294967295 for the trace, and 1 for a WAV file.
@@ -72,8 +77,25 @@ fn why_form(why: ScriptWhy) -> &'static [u8]
     }
 }
 
-/// The line of a status at the end of a text; of `Ok` and of `WriteFault` nothing.
-pub(crate) fn put_status(text: &mut Text, status: Status) -> Result<(), Memory>
+// Whether a status has a line.
+fn has_line(status: Status) -> bool
+    ensures { result ≡ has_line status }
+{
+    match status {
+        Status::Ok | Status::WriteFault => false,
+        Status::Usage { .. }
+        | Status::Script { .. }
+        | Status::Line { .. }
+        | Status::Wav { .. }
+        | Status::Absent { .. }
+        | Status::ReadFault { .. }
+        | Status::Limit { .. }
+        | Status::Memory => true,
+    }
+}
+
+// The line of a status at the end of a text; of `Ok` and of `WriteFault` nothing.
+fn push_line(text: &mut Text, status: Status) -> Result<(), Memory>
     ensures { OnOk result (text.new ≡ text.old ++ line_of status) }
 {
     match status {
@@ -98,5 +120,65 @@ pub(crate) fn put_status(text: &mut Text, status: Status) -> Result<(), Memory>
             &[u64::from(place), u64::from(which.number())],
         ),
         Status::Memory => text.extend(b"memory\n"),
+    }
+}
+
+// Puts the line of a status. A put that fails leaves the status.
+fn put_whole<O: Sink>(alloc: Global, out: &mut O, line: &[u8], status: Status) -> Status
+    requires same { line.now ≡ line_of status }
+    requires some { line.now ≢ [] }
+    ensures ends { LineEnds statuses status (O.faults out.old) (O.faults out.new)
+        (O.given out.old) (O.given out.new) result }
+    ensures later { O.faults out.old ≤ O.faults out.new }
+{
+    match out.put(alloc, line) {
+        Err(FileFail::Memory) => Status::Memory,
+        _ => status,
+    }
+}
+
+impl Ending for Status {
+    ghost use Rattle.graph_pictures.specs.Statuses.{statuses};
+
+    ghost statuses = { statuses };
+
+    fn done() -> Status {
+        Status::Ok
+    }
+
+    fn usage(word: u32) -> Status {
+        Status::Usage { word }
+    }
+
+    fn absent(place: u32) -> Status {
+        Status::Absent { place }
+    }
+
+    fn read_fault(place: u32) -> Status {
+        Status::ReadFault { place }
+    }
+
+    fn store_fault(_place: u32) -> Status {
+        Status::WriteFault
+    }
+
+    fn put_fault() -> Status {
+        Status::WriteFault
+    }
+
+    fn memory() -> Status {
+        Status::Memory
+    }
+
+    #[tactic(auto, using(crate::proofs::LineLemmas::lines))]
+    fn put_line<O: Sink>(self, alloc: Global, out: &mut O) -> Status {
+        if !has_line(self) {
+            return self;
+        }
+        let mut line = Items::new(alloc);
+        match push_line(&mut line, self) {
+            Ok(()) => put_whole(alloc, out, line.as_slice(), self),
+            Err(_memory) => put_whole(alloc, out, b"memory\n", Status::Memory),
+        }
     }
 }

@@ -1,9 +1,10 @@
 //! The words of a command line.
 ghost use Rattle.std.specs.Prelude.{◌≡◌, map, string_bytes, Ok, IfOk};
-ghost use Rattle.graph_pictures.specs.Words.{is_file_word, graph_behind, graph_of, timeline_behind, timeline_of, wave_of, request_of, IsRead};
+ghost use Rattle.command_frame.specs.Words.{is_file_word, IsAsked};
+ghost use Rattle.graph_pictures.specs.Words.{graph_behind, graph_of, timeline_behind, timeline_of, wave_of, request_of};
 ghost use Rattle.graph_pictures.specs.declared.words.Request.TheVariants as R;
 
-use crate::status::Status;
+use command_frame::Misread;
 use pw_lists::{Items, Memory, Text};
 use std::alloc::Global;
 
@@ -29,12 +30,12 @@ fn is_file_word(word: &String) -> bool
 }
 
 // The request of a graph.
-fn graph_request(alloc: Global, script: &String) -> Result<Request, Status>
-    ensures { IsRead (Ok (R.Graph (string_bytes script.now))) result }
+fn graph_request(alloc: Global, script: &String) -> Result<Request, Misread>
+    ensures { IsAsked (Ok (R.Graph (string_bytes script.now))) result }
 {
     match Items::from_slice(alloc, script.as_bytes()) {
         Ok(script) => Ok(Request::Graph { script }),
-        Err(_memory) => Err(Status::Memory),
+        Err(_memory) => Err(Misread::Memory),
     }
 }
 
@@ -48,129 +49,129 @@ fn two_texts(alloc: Global, a: &String, b: &String) -> Result<(Text, Text), Memo
 }
 
 // The request of a graph with what a run did.
-fn run_graph_request(alloc: Global, script: &String, trace: &String) -> Result<Request, Status>
-    ensures { IsRead (Ok (R.RunGraph (string_bytes script.now) (string_bytes trace.now))) result }
+fn run_graph_request(alloc: Global, script: &String, trace: &String) -> Result<Request, Misread>
+    ensures { IsAsked (Ok (R.RunGraph (string_bytes script.now) (string_bytes trace.now))) result }
 {
     match two_texts(alloc, script, trace) {
         Ok((script, trace)) => Ok(Request::RunGraph { script, trace }),
-        Err(_memory) => Err(Status::Memory),
+        Err(_memory) => Err(Misread::Memory),
     }
 }
 
 // The request of a timeline.
-fn timeline_request(alloc: Global, script: &String, trace: &String) -> Result<Request, Status>
-    ensures { IsRead (Ok (R.Timeline (string_bytes script.now) (string_bytes trace.now))) result }
+fn timeline_request(alloc: Global, script: &String, trace: &String) -> Result<Request, Misread>
+    ensures { IsAsked (Ok (R.Timeline (string_bytes script.now) (string_bytes trace.now))) result }
 {
     match two_texts(alloc, script, trace) {
         Ok((script, trace)) => Ok(Request::Timeline { script, trace }),
-        Err(_memory) => Err(Status::Memory),
+        Err(_memory) => Err(Misread::Memory),
     }
 }
 
 // The request of a wave.
-fn wave_request(alloc: Global, file: &String) -> Result<Request, Status>
-    ensures { IsRead (Ok (R.Wave (string_bytes file.now))) result }
+fn wave_request(alloc: Global, file: &String) -> Result<Request, Misread>
+    ensures { IsAsked (Ok (R.Wave (string_bytes file.now))) result }
 {
     match Items::from_slice(alloc, file.as_bytes()) {
         Ok(file) => Ok(Request::Wave { file }),
-        Err(_memory) => Err(Status::Memory),
+        Err(_memory) => Err(Misread::Memory),
     }
 }
 
 // The words after the script of a graph.
-fn read_run(alloc: Global, script: &String, rest: &[String]) -> Result<Request, Status>
-    ensures { IsRead (graph_behind (string_bytes script.now) (map string_bytes rest.now))
+fn read_run(alloc: Global, script: &String, rest: &[String]) -> Result<Request, Misread>
+    ensures { IsAsked (graph_behind (string_bytes script.now) (map string_bytes rest.now))
         result }
 {
     match rest {
         [] => graph_request(alloc, script),
         [trace, more @ ..] => {
             if !is_file_word(trace) {
-                Err(Status::Usage { word: 2 })
+                Err(Misread::Word(2))
             } else if more.is_empty() {
                 run_graph_request(alloc, script, trace)
             } else {
-                Err(Status::Usage { word: 3 })
+                Err(Misread::Word(3))
             }
         }
     }
 }
 
 // The words after `graph`.
-fn read_graph(alloc: Global, rest: &[String]) -> Result<Request, Status>
-    ensures { IsRead (graph_of (map string_bytes rest.now)) result }
+fn read_graph(alloc: Global, rest: &[String]) -> Result<Request, Misread>
+    ensures { IsAsked (graph_of (map string_bytes rest.now)) result }
 {
     match rest {
-        [] => Err(Status::Usage { word: 1 }),
+        [] => Err(Misread::Word(1)),
         [script, more @ ..] => {
             if is_file_word(script) {
                 read_run(alloc, script, more)
             } else {
-                Err(Status::Usage { word: 1 })
+                Err(Misread::Word(1))
             }
         }
     }
 }
 
 // The words after the script of a timeline.
-fn read_trace(alloc: Global, script: &String, rest: &[String]) -> Result<Request, Status>
-    ensures { IsRead (timeline_behind (string_bytes script.now) (map string_bytes rest.now))
+fn read_trace(alloc: Global, script: &String, rest: &[String]) -> Result<Request, Misread>
+    ensures { IsAsked (timeline_behind (string_bytes script.now) (map string_bytes rest.now))
         result }
 {
     match rest {
-        [] => Err(Status::Usage { word: 2 }),
+        [] => Err(Misread::Word(2)),
         [trace, more @ ..] => {
             if !is_file_word(trace) {
-                Err(Status::Usage { word: 2 })
+                Err(Misread::Word(2))
             } else if more.is_empty() {
                 timeline_request(alloc, script, trace)
             } else {
-                Err(Status::Usage { word: 3 })
+                Err(Misread::Word(3))
             }
         }
     }
 }
 
 // The words after `timeline`.
-fn read_timeline(alloc: Global, rest: &[String]) -> Result<Request, Status>
-    ensures { IsRead (timeline_of (map string_bytes rest.now)) result }
+fn read_timeline(alloc: Global, rest: &[String]) -> Result<Request, Misread>
+    ensures { IsAsked (timeline_of (map string_bytes rest.now)) result }
 {
     match rest {
-        [] => Err(Status::Usage { word: 1 }),
+        [] => Err(Misread::Word(1)),
         [script, more @ ..] => {
             if is_file_word(script) {
                 read_trace(alloc, script, more)
             } else {
-                Err(Status::Usage { word: 1 })
+                Err(Misread::Word(1))
             }
         }
     }
 }
 
 // The words after `wave`.
-fn read_wave(alloc: Global, rest: &[String]) -> Result<Request, Status>
-    ensures { IsRead (wave_of (map string_bytes rest.now)) result }
+fn read_wave(alloc: Global, rest: &[String]) -> Result<Request, Misread>
+    ensures { IsAsked (wave_of (map string_bytes rest.now)) result }
 {
     match rest {
-        [] => Err(Status::Usage { word: 1 }),
+        [] => Err(Misread::Word(1)),
         [file, more @ ..] => {
             if !is_file_word(file) {
-                Err(Status::Usage { word: 1 })
+                Err(Misread::Word(1))
             } else if more.is_empty() {
                 wave_request(alloc, file)
             } else {
-                Err(Status::Usage { word: 2 })
+                Err(Misread::Word(2))
             }
         }
     }
 }
 
 /// What the words ask for, or the first word at fault.
-pub(crate) fn read_words(alloc: Global, words: &[String]) -> Result<Request, Status>
-    ensures { IsRead (request_of (map string_bytes words.now)) result }
+pub(crate) fn read_words(alloc: Global, words: &[String]) -> Result<Request, Misread>
+    ensures { IsAsked (request_of (map string_bytes words.now)) result }
 {
     match words {
-        [] => Err(Status::Usage { word: 0 }),
+        [] => Err(Misread::Word(0)),
         [name, rest @ ..] => {
             if name.as_bytes() == b"graph".as_slice() {
                 read_graph(alloc, rest)
@@ -179,7 +180,7 @@ pub(crate) fn read_words(alloc: Global, words: &[String]) -> Result<Request, Sta
             } else if name.as_bytes() == b"wave".as_slice() {
                 read_wave(alloc, rest)
             } else {
-                Err(Status::Usage { word: 0 })
+                Err(Misread::Word(0))
             }
         }
     }

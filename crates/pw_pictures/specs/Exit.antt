@@ -1,70 +1,45 @@
--- How the program ends, by the words that were read of its command line, or why they were not read.
--- Source: this project's own.
-use Rattle.std.specs.Prelude.{◌≡◌, ℕ, List, codes, Result, IsSome}
+-- How the program ends, by its words. Source: this project's own.
+use Rattle.std.specs.Prelude.{◌≡◌, ℕ, List, codes, Result}
 use Rattle.pw_outside.specs.declared.files.FileFail.{FileFail}
-use Rattle.pw_outside.specs.declared.files.Files as files
-use Rattle.pw_outside.specs.declared.output.Sink as sink
-use Rattle.pw_outside.specs.Causes.{HasCause as CountsFail}
-use Rattle.pw_outside.specs.Files.{Held, names_in}
+use Rattle.pw_outside.specs.Causes.{HasCause}
 use Rattle.pw_outside.specs.Output.{Given, IsPut}
+use Rattle.command_frame.specs.FaultCauses.{Caused, IsUsage}
+use Rattle.command_frame.specs.Headline.{IsTold, IsComplete}
+use Rattle.command_frame.specs.Keeping.{KeepsFiles}
+use Rattle.command_frame.specs.Outside.{Outside}
 use Rattle.system_files.specs.declared.unread.Unread.{Unread}
 use Rattle.system_files.specs.Unread.{unread_number, unread_message}
 use Rattle.graph_pictures.specs.declared.status.Status.{Status}
-use Rattle.graph_pictures.specs.Answers.{IsAnswer, IsPrinted}
-use Rattle.graph_pictures.specs.Causes.{HasCause, IsUsage}
+use Rattle.graph_pictures.specs.Answers.{IsAnswered}
 use Rattle.graph_pictures.specs.Sentences.{explained}
+use Rattle.graph_pictures.specs.Statuses.{statuses}
 use Rattle.graph_pictures.specs.StatusText.{status_number}
 use Rattle.graph_pictures.specs.Words.{request_of}
 use Rattle.pw_pictures.specs.declared.program.Exit.{Exit}
 
--- the outside of a run at one moment, as far as it tells: what the files hold, what both outputs
--- were given, and how many loads and puts have failed
-pub record Outside : Type 0 where
-  pub held : Held
-  pub load_faults : ℕ
-  pub given : Given
-  pub put_faults : ℕ
-  pub error_given : Given
-  pub error_faults : ℕ
+-- a text was put, or why it was not: its count of faults rose, or memory was short
+pub record IsSaid (text : List ℕ) (faults faults_now : ℕ) (given given_now : Given)
+    (said : Result (Unit {0}) FileFail) : Type 0 where
+  pub put : IsPut text given given_now said
+  pub cause : HasCause faults faults_now said
 
--- what files, an output and an error output show of themselves
-abbrev pub outside : {F O E : Type 0} → files.Ghosts F → sink.Ghosts O → sink.Ghosts E → F → O → E
-    → Outside
-outside of_files of_output of_errors files output errors = record {
-  held = of_files.held files;
-  load_faults = of_files.load_faults files;
-  given = of_output.given output;
-  put_faults = of_output.faults output;
-  error_given = of_errors.given errors;
-  error_faults = of_errors.faults errors;
-}
-
--- what a put of a sentence on the error output answered, of its count of faults: all of it was
--- given, a part where the count rose, or nothing, where memory was short
-pub record IsSaid (text : List ℕ) (before now : Outside) (said : Result (Unit {0}) FileFail)
-    : Type 0 where
-  pub put : IsPut text before.error_given now.error_given said
-  pub cause : CountsFail before.error_faults now.error_faults said
-
--- OF WORDS THAT WERE READ: the number is that of a status, which the output follows; the status's
--- sentence is put on the error output
-pub record HasEnded (words : List (List ℕ)) (before now : Outside) (exit : Exit) : Type 0 where
+-- OF WORDS THAT WERE READ: the number is that of a status, which the output follows; what the files
+-- hold stays; and the sentence of that status, if it has one, is put on the error output
+pub record HasEnded (words : List (List ℕ)) (before now : Outside) (faults faults_now : ℕ)
+    (given given_now : Given) (exit : Exit) : Type 0 where
   pub status : Status
   pub code : exit.code ≡ status_number status
-  pub printed : IsSome before.held → (answer : Result (List ℕ) Status)
-      × IsAnswer (names_in before.held) words answer
-      × IsPrinted answer before.put_faults now.put_faults before.given now.given status
-  pub cause : HasCause before.load_faults now.load_faults before.put_faults now.put_faults status
-  pub usage : IsUsage (request_of words) status
-  pub held : now.held ≡ before.held
-  pub said : IsSaid (explained words status) before now exit.said
+  pub told : IsTold statuses (IsAnswered words) before now status
+  pub cause : Caused statuses before now status
+  pub usage : IsUsage statuses (request_of words) status
+  pub complete : IsComplete statuses (IsAnswered words) before now status
+  pub keeps : KeepsFiles before now
+  pub said : IsSaid (explained words status) faults faults_now given given_now exit.said
 
--- OF WORDS THAT WERE NOT READ: nothing is loaded or printed, and their sentence is put on the error
--- output
-pub record HasRefused (unread : Unread) (before now : Outside) (exit : Exit) : Type 0 where
+-- OF WORDS THAT WERE NOT READ: their sentence is put on the error output, and nothing else is done
+pub record HasRefused (unread : Unread) (before now : Outside) (faults faults_now : ℕ)
+    (given given_now : Given) (exit : Exit) : Type 0 where
   pub code : exit.code ≡ unread_number unread
-  pub held : now.held ≡ before.held
-  pub loads : now.load_faults ≡ before.load_faults
-  pub given : now.given ≡ before.given
-  pub puts : now.put_faults ≡ before.put_faults
-  pub said : IsSaid (unread_message (codes "pipegraph-pictures") unread) before now exit.said
+  pub outside : now ≡ before
+  pub said : IsSaid (unread_message (codes "pipegraph-pictures") unread) faults faults_now given
+      given_now exit.said

@@ -3,7 +3,8 @@ ghost use Rattle.std.specs.Prelude.{◌≡◌, map, string_bytes, codes, Err, If
 ghost use Rattle.pw_outside.specs.declared.files.FileFail.TheVariants as F;
 ghost use Rattle.pw_outside.specs.Causes.{HasCause};
 ghost use Rattle.pw_outside.specs.Output.{IsPut};
-ghost use Rattle.pw_pictures.specs.Exit.{outside, HasEnded, HasRefused};
+ghost use Rattle.command_frame.specs.Outside.{outside};
+ghost use Rattle.pw_pictures.specs.Exit.{HasEnded, HasRefused};
 
 use graph_pictures::{explain, print_picture};
 use pw_lists::{Items, Memory, Text};
@@ -43,9 +44,9 @@ fn run_words<F: Files, O: Sink, E: Sink>(
     out: &mut O,
     errors: &mut E,
 ) -> Exit
-    ensures { HasEnded (map string_bytes words.now)
-        (outside F.Files O.Sink E.Sink files.old out.old errors.old)
-        (outside F.Files O.Sink E.Sink files.new out.new errors.new) result }
+    ensures { HasEnded (map string_bytes words.now) (outside F.Files O.Sink files.old out.old)
+        (outside F.Files O.Sink files.new out.new) (E.faults errors.old) (E.faults errors.new)
+        (E.given errors.old) (E.given errors.new) result }
 {
     let status = print_picture(alloc, words, files, out);
     let said = put_made(alloc, explain(alloc, words, status), errors);
@@ -66,12 +67,14 @@ pub(crate) fn run_read<F: Files, O: Sink, E: Sink>(
 ) -> Exit
     // The number is that of a status that the output follows, and its sentence is put.
     ensures ended { IfOk words (λ read. HasEnded (map string_bytes read)
-        (outside F.Files O.Sink E.Sink files.old out.old errors.old)
-        (outside F.Files O.Sink E.Sink files.new out.new errors.new) result) }
+        (outside F.Files O.Sink files.old out.old) (outside F.Files O.Sink files.new out.new)
+        (E.faults errors.old) (E.faults errors.new) (E.given errors.old) (E.given errors.new)
+        result) }
     // Or of what could not be read: nothing else is done.
     ensures refused { IfErr words (λ unread. HasRefused unread
-        (outside F.Files O.Sink E.Sink files.old out.old errors.old)
-        (outside F.Files O.Sink E.Sink files.new out.new errors.new) result) }
+        (outside F.Files O.Sink files.old out.old) (outside F.Files O.Sink files.new out.new)
+        (E.faults errors.old) (E.faults errors.new) (E.given errors.old) (E.given errors.new)
+        result) }
 {
     match words {
         Ok(words) => run_words(alloc, words.as_slice(), files, out, errors),

@@ -5,4 +5,4 @@ use Rattle.graph_pictures.proofs.reading.drawn_trace.Goals as goal
 
 pub read_run-requires : goal.read_run-requires
 read_run-requires c =
-    subst AreNames (sym c.names.ensures) (script_names c.args.script.now c.requires.ranges c.requires.order)
+    subst AreNames (sym c.names.ensures) (script_names c.args.script.now c.requires)

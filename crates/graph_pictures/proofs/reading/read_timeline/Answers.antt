@@ -1,13 +1,14 @@
-use Rattle.std.proofs.Common.{refl}
-use Rattle.graph_pictures.specs.Answers.IsTracePicture.{refused}
+use Rattle.pw_outside.specs.Files.{names_in}
 use Rattle.graph_pictures.specs.TraceAnswers.{DrawsTrace}
-use Rattle.graph_pictures.proofs.AnswerLemmas.{trace_after}
+use Rattle.graph_pictures.proofs.AnswerLemmas.{script_stops, trace_after}
 use Rattle.graph_pictures.proofs.reading.read_timeline.Goals as goal
 
 pub returns-in-Err-clause-told : goal.returns-in-Err-clause-told
-returns-in-Err-clause-told g c = λ h. refused c.in-Err.status (c.in-Err.ensures.told h) refl
+returns-in-Err-clause-told g c = λ h.
+    script_stops DrawsTrace c.args.script.now c.args.trace.now (names_in (g.F.Files.held c.args.files.now)) c.in-Err.status
+    (c.in-Err.ensures.told h)
 
 pub returns-in-Ok-clause-told : goal.returns-in-Ok-clause-told
 returns-in-Ok-clause-told g c = λ h.
-    trace_after DrawsTrace _ _ c.args.script.now c.args.trace.now c.in-Ok.script _ c.in-Ok.ensures.held (c.in-Ok.ensures.told h)
+    trace_after DrawsTrace _ _ c.args.script.now c.args.trace.now c.in-Ok.script _ c.in-Ok.ensures.files.held (c.in-Ok.ensures.told h)
     c.read_trace.ensures.told h
