@@ -1,4 +1,4 @@
--- Laws of `specs/Allowed.antt` and `specs/working/Ending.antt`: how a part ends, and how it ends with what comes next.
+-- Laws of `specs/Allowed.antt` and `specs/Ending.antt`: how a part ends, and how it ends with what comes next.
 use Rattle.std.proofs.Common.{◌≡◌, ℕ, ◌+◌, List, ◌++◌, length, refl, sym, subst, inl, inr, arith}
 use Rattle.std.specs.Prelude.{Result, Ok, Err, Contains}
 use Rattle.std.proofs.lemmas.Grind.{common_steps}
@@ -6,8 +6,8 @@ use Rattle.command_frame.specs.declared.ending.End.{End}
 use Rattle.command_frame.specs.declared.ending.End.TheVariants as E
 use Rattle.command_frame.specs.Answer.{Expected, ended, gone_on}
 use Rattle.command_frame.specs.Statuses.{Statuses}
-use Rattle.command_frame.specs.working.Ending.{Ends, IsEndOf, StopsAt, CommandCause, IsLateRefusal}
-use Rattle.command_frame.specs.working.Ending.IsEndOf.{is_end}
+use Rattle.command_frame.specs.Ending.{Ends, IsEndOf, StopsAt, CommandCause, IsLateRefusal}
+use Rattle.command_frame.specs.Ending.IsEndOf.{is_end}
 use Rattle.command_frame.specs.Allowed.{Part, Binds}
 use Rattle.command_frame.specs.Allowed.Binds.{short, stops, goes}
 

@@ -1,4 +1,4 @@
--- Laws of `specs/working/Finishing.antt`: how accepted work ended.
+-- Laws of `specs/Finishing.antt`: how accepted work ended.
 use Rattle.std.proofs.Common.{◌≡◌, ℕ, ◌≤◌, refl, sym, subst, inl, inr, take, length, List, [], ◌<◌, ◌∙◌, arith}
 use Rattle.std.proofs.lemmas.List.{take_all}
 use Rattle.std.specs.Prelude.{◌≢◌, ◌⊎◌, Result, Ok}
@@ -13,8 +13,8 @@ use Rattle.command_frame.specs.Headline.{FollowsTo}
 use Rattle.command_frame.specs.Outside.{Outside}
 use Rattle.command_frame.specs.Statuses.{Statuses}
 use Rattle.command_frame.specs.Stores.{AllStored, ShortAt}
-use Rattle.command_frame.specs.working.Delivery.{StoresStop, LineEnds, IsTextEnd, TextEnds}
-use Rattle.command_frame.specs.working.Finishing.{IsWorkEnd, WorkFinished, Finished, accepted}
+use Rattle.command_frame.specs.Delivery.{StoresStop, LineEnds, IsTextEnd, TextEnds}
+use Rattle.command_frame.specs.Finishing.{IsWorkEnd, WorkFinished, Finished, accepted}
 use Rattle.command_frame.proofs.CountLemmas.{rose_later}
 
 module _ {S : Type 0} (m : Statuses S) where

@@ -7,11 +7,11 @@ use Rattle.command_frame.specs.declared.work.Work.{Work}
 use Rattle.pw_outside.specs.Causes.{Rose}
 use Rattle.command_frame.specs.Answer.{Answer}
 use Rattle.command_frame.specs.Statuses.{Statuses}
-use Rattle.command_frame.specs.working.Ending.{IsEndOf, StopsAt, IsRefusal, PrepareCause, IsDeliverable}
-use Rattle.command_frame.specs.working.Ending.IsEndOf.{is_end}
+use Rattle.command_frame.specs.Ending.{IsEndOf, StopsAt, IsRefusal, PrepareCause, IsDeliverable}
+use Rattle.command_frame.specs.Ending.IsEndOf.{is_end}
 use Rattle.command_frame.specs.Following.{status_of, stores_of, text_of, GaveLine, StatusFollows, FilesFollow, TextFollows}
-use Rattle.command_frame.specs.working.Delivery.{LineEnds}
-use Rattle.command_frame.specs.working.Finishing.{IsWorkEnd, Finished, accepted}
+use Rattle.command_frame.specs.Delivery.{LineEnds}
+use Rattle.command_frame.specs.Finishing.{IsWorkEnd, Finished, accepted}
 use Rattle.command_frame.specs.FaultCauses.{EndCaused, Caused, HadNoFault}
 use Rattle.command_frame.specs.Headline.{FollowsTo, Follows, IsNoFault}
 use Rattle.command_frame.specs.Outside.{Outside}

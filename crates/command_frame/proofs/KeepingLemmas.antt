@@ -2,7 +2,7 @@
 use Rattle.std.specs.Prelude.{Result, Ok, Err, IfOk}
 use Rattle.command_frame.specs.declared.work.Work.{Work}
 use Rattle.command_frame.specs.Keeping.{HasNoStores}
-use Rattle.command_frame.specs.working.Finishing.{StoresNothing}
+use Rattle.command_frame.specs.Finishing.{StoresNothing}
 
 pub stores_nothing : {S : Type 0} (delivers : Work → Type 0) (made : Result Work S) → HasNoStores delivers → IfOk made delivers
     → StoresNothing made

@@ -5,8 +5,8 @@ use Rattle.pw_outside.specs.Files.{Names}
 use Rattle.command_frame.specs.declared.ending.End.TheVariants as E
 use Rattle.command_frame.specs.Answer.{ended, load_outcome}
 use Rattle.command_frame.specs.Statuses.{Statuses}
-use Rattle.command_frame.specs.working.Ending.{Ends, StopsAt}
-use Rattle.command_frame.specs.working.Ending.IsEndOf.{is_end}
+use Rattle.command_frame.specs.Ending.{Ends, StopsAt}
+use Rattle.command_frame.specs.Ending.IsEndOf.{is_end}
 use Rattle.command_frame.specs.Allowed.{IsLoad}
 use Rattle.command_frame.proofs.AllowedLemmas.{IsPlain, part_gives, part_memory, part_refuses}
 

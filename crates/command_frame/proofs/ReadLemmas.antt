@@ -8,7 +8,7 @@ use Rattle.command_frame.specs.Allowed.{Reads}
 use Rattle.command_frame.specs.Answer.{Answer}
 use Rattle.command_frame.specs.Headline.{IsAnswer, read_as}
 use Rattle.command_frame.specs.Statuses.{Statuses}
-use Rattle.command_frame.specs.working.Ending.{Ends}
+use Rattle.command_frame.specs.Ending.{Ends}
 use Rattle.command_frame.proofs.AllowedLemmas.{IsPlain, binds_goes, binds_stops, part_gives, part_memory, part_refuses}
 
 module _ {S Q : Type 0} (m : Statuses S) (asked : Result Q ℕ) (answers : Q → Names → Answer S → Type 0) (names : Names) where

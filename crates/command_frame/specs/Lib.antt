@@ -8,4 +8,7 @@ pub mod FaultCauses
 pub mod Headline
 pub mod Outside
 pub mod Keeping
-pub mod working
+pub mod Delivery
+pub mod Ending
+pub mod Preparing
+pub mod Finishing

@@ -5,9 +5,9 @@ ghost use Rattle.pw_outside.specs.Causes.{HasCause};
 ghost use Rattle.wav_files.specs.WavWriting.{IsWave, wav_bytes};
 ghost use Rattle.command_frame.specs.Stores.{bytes_of};
 ghost use Rattle.command_frame.specs.Outside.{outside};
-ghost use Rattle.command_frame.specs.working.Delivery.{StoresDone, TextDone, TextEnds};
-ghost use Rattle.command_frame.specs.working.Ending.{CanBeWritten, IsStorable};
-ghost use Rattle.command_frame.specs.working.Finishing.{Finished, CanBeDelivered, StoresNothing};
+ghost use Rattle.command_frame.specs.Delivery.{StoresDone, TextDone, TextEnds};
+ghost use Rattle.command_frame.specs.Ending.{CanBeWritten, IsStorable};
+ghost use Rattle.command_frame.specs.Finishing.{Finished, CanBeDelivered, StoresNothing};
 
 use crate::ending::Ending;
 use crate::work::{Content, Store, Work};

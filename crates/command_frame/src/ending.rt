@@ -28,7 +28,7 @@ pub enum End {
 pub trait Ending: Copy + Drop {
     ghost use Rattle.command_frame.specs.declared.ending.End.TheVariants as E;
     ghost use Rattle.command_frame.specs.Statuses.{Statuses};
-    ghost use Rattle.command_frame.specs.working.Delivery.{LineEnds};
+    ghost use Rattle.command_frame.specs.Delivery.{LineEnds};
 
     ghost statuses: { Statuses Self };
 

@@ -2,8 +2,8 @@
 ghost use Rattle.std.specs.Prelude.{◌≡◌, ◌≤◌, length};
 ghost use Rattle.command_frame.specs.declared.ending.End.TheVariants as E;
 ghost use Rattle.command_frame.specs.Allowed.{IsLoad};
-ghost use Rattle.command_frame.specs.working.Ending.{CommandCause};
-ghost use Rattle.command_frame.specs.working.Preparing.{LoadsOnly, Tells};
+ghost use Rattle.command_frame.specs.Ending.{CommandCause};
+ghost use Rattle.command_frame.specs.Preparing.{LoadsOnly, Tells};
 
 use crate::ending::Ending;
 use pw_lists::{Items, Text};

@@ -1,8 +1,8 @@
 //! The requests of a program.
 ghost use Rattle.std.specs.Prelude.{◌≡◌, map, string_bytes, IfOk};
 ghost use Rattle.command_frame.specs.Words.{IsAsked};
-ghost use Rattle.command_frame.specs.working.Ending.{CommandCause, IsDeliverable};
-ghost use Rattle.command_frame.specs.working.Preparing.{LoadsOnly, Tells};
+ghost use Rattle.command_frame.specs.Ending.{CommandCause, IsDeliverable};
+ghost use Rattle.command_frame.specs.Preparing.{LoadsOnly, Tells};
 
 use crate::ending::Ending;
 use crate::work::Work;

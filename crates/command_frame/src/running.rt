@@ -4,8 +4,8 @@ ghost use Rattle.command_frame.specs.FaultCauses.{Caused, IsUsage};
 ghost use Rattle.command_frame.specs.Headline.{IsAnswer, IsTold, IsComplete};
 ghost use Rattle.command_frame.specs.Keeping.{HasNoStores, KeepsFiles};
 ghost use Rattle.command_frame.specs.Outside.{outside};
-ghost use Rattle.command_frame.specs.working.Ending.{PrepareCause, IsDeliverable};
-ghost use Rattle.command_frame.specs.working.Preparing.{LoadsOnly, Tells, IsPreparedUsage};
+ghost use Rattle.command_frame.specs.Ending.{PrepareCause, IsDeliverable};
+ghost use Rattle.command_frame.specs.Preparing.{LoadsOnly, Tells, IsPreparedUsage};
 
 use crate::delivering::finish;
 use crate::ending::Ending;

@@ -6,7 +6,7 @@ use Rattle.command_frame.specs.declared.work.Store.{Store}
 use Rattle.command_frame.specs.declared.work.Work.{Work}
 use Rattle.command_frame.specs.Allowed.{Reads, Binds}
 use Rattle.command_frame.specs.Answer.{Expected}
-use Rattle.command_frame.specs.working.Ending.{Ends, CommandCause}
+use Rattle.command_frame.specs.Ending.{Ends, CommandCause}
 use Rattle.command_frame.proofs.AllowedLemmas.{binds_goes, binds_stops, part_quiet}
 use Rattle.cycle_trace.specs.TraceReading.{AreNames}
 use Rattle.graph_script.specs.declared.script.Script.{Script}

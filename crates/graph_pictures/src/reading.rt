@@ -1,8 +1,8 @@
 //! What the files of a request are read as.
 ghost use Rattle.std.specs.Prelude.{◌≤◌, length};
 ghost use Rattle.pw_lists.specs.Limits.{script_bytes_limit, wav_bytes_limit};
-ghost use Rattle.command_frame.specs.working.Ending.{CommandCause};
-ghost use Rattle.command_frame.specs.working.Preparing.{LoadsOnly, Tells};
+ghost use Rattle.command_frame.specs.Ending.{CommandCause};
+ghost use Rattle.command_frame.specs.Preparing.{LoadsOnly, Tells};
 ghost use Rattle.graph_pictures.specs.Answers.{DrawsGraph, IsGraphDrawn, IsRunDrawn, IsPicture};
 ghost use Rattle.graph_pictures.specs.Reading.{ParsesTo, IsScriptRead, IsTraceLoad, IsTraceDrawn};
 ghost use Rattle.graph_pictures.specs.Statuses.{statuses};

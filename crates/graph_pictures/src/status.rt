@@ -1,6 +1,6 @@
 //! How a call ended. The texts and the numbers are those of `pipegraph`.
 ghost use Rattle.std.specs.Prelude.{◌≡◌, ◌≢◌, ◌≤◌, [], ◌++◌, OnOk};
-ghost use Rattle.command_frame.specs.working.Delivery.{LineEnds};
+ghost use Rattle.command_frame.specs.Delivery.{LineEnds};
 ghost use Rattle.graph_pictures.specs.Statuses.{statuses};
 ghost use Rattle.graph_pictures.specs.StatusText.{status_number, which_in, why_form, has_line, line_of};
 

@@ -5,7 +5,7 @@ use Rattle.pw_outside.specs.Files.{Names}
 use Rattle.command_frame.specs.declared.work.Work.{Work}
 use Rattle.command_frame.specs.Allowed.{IsLoad, Reads}
 use Rattle.command_frame.specs.Answer.{Answer, Expected}
-use Rattle.command_frame.specs.working.Ending.{Ends, CommandCause, IsDeliverable, IsLateRefusal}
+use Rattle.command_frame.specs.Ending.{Ends, CommandCause, IsDeliverable, IsLateRefusal}
 use Rattle.command_frame.proofs.AllowedLemmas.{binds_goes, binds_stops, part_quiet}
 use Rattle.command_frame.proofs.LoadLemmas.{load_memory}
 use Rattle.format_filter.specs.declared.format.Format.{Format}

@@ -14,7 +14,7 @@ use Rattle.pod_text.specs.GainAnswer.{IsReadAs, IsBehind, ArePointsTo}
 use Rattle.pod_text.specs.declared.fault.ListFault.{ListFault}
 use Rattle.pod_text.specs.declared.fault.ListFault.TheVariants as f
 
--- the reading of the lines that are left, from a number on, behind these points
+-- the reading of the lines that are left, from a number on, after these points
 abbrev pub reading_from : ℕ → List Point → List (List ℕ) → Result (List Point) ListFault
 reading_from number points lines = fold with_line (Ok points) (enumerate_from number lines)
 

@@ -81,7 +81,7 @@ no_fault i before p c is k le =
     ∙ ap (λ (o : Option Pod). fault_by i false true (Some k.props) o (point_in c)) k.value_is
     ∙ ap (λ (o : Option Point). fault_by i false true (Some k.props) (Some k.value) o) k.point_is
 
--- the faults of controls from this place on, behind one with this offset
+-- the faults of controls from this place on, after one with this offset
 abbrev faults_from : ℕ → ℕ → List Control → List ControlFault
 faults_from i before controls = filter_map (λ e. fault_in e.0 e.1.0 e.1.1)
     (enumerate_from i (zip (before ∷ map (λ c. (out-Control c).offset) controls) controls))

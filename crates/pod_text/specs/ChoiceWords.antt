@@ -43,7 +43,7 @@ step_said min max step =
     if nat_le min max && nat_lt 0 step
     then Some (Step Int (pos min) (pos min) (pos max) (pos step)) else None
 
--- behind a least and a greatest number: nothing, or a step
+-- after a least and a greatest number: nothing, or a step
 abbrev pub behind_max : ℕ → Option ℕ → List (List ℕ) → Option Choice
 behind_max min None rest = None
 behind_max min (Some max) [] = range_said min max
@@ -54,13 +54,13 @@ abbrev pub behind_min : ℕ → List (List ℕ) → Option Choice
 behind_min min [] = None
 behind_min min (max ∷ rest) = behind_max min (number_said max) rest
 
--- a least number, and nothing between the two dots behind it
+-- a least number, and nothing between the two dots after it
 abbrev pub spread : List ℕ → Option ℕ → List ℕ → Option Choice
 spread gap None rest = None
 spread gap (Some min) rest =
     if length gap == 0 then behind_min min (slice_split is_slash rest) else None
 
--- a word, by its pieces between dots: one alone, or a least number, a gap and the rest
+-- a word, by its pieces between dots: a single one, or a least number, a gap and the rest
 abbrev pub behind_first : List ℕ → List (List ℕ) → Option Choice
 behind_first word [] = option_and_then one_of (values_said word)
 behind_first min (gap ∷ []) = None

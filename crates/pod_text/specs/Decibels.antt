@@ -30,7 +30,7 @@ decibel_index (first ∷ digits) =
     if first == 0x2D then option_map (λ n. 60 - n) (number_of 1 60 digits)
     else option_map (λ n. 60 + n) (number_of 0 42 (first ∷ digits))
 
--- a number with the unit dB behind it
+-- a number with the unit dB after it
 abbrev pub decibels_of : List ℕ → Option ℤ
 decibels_of word =
     if bytes_eq (drop (length word - 2) word) (codes "dB")

@@ -1,4 +1,4 @@
--- The words behind `format`: a file, rates, channels, and a key that the other side must have.
+-- The words after `format`: a file, rates, channels, and a key that the other side must have.
 -- Source: this project's own.
 use Rattle.std.specs.Prelude.{ℕ, if◌then◌else◌, List, [], ◌∷◌, codes, bytes_eq, Option, Some, None, Result, Ok, Err}
 use Rattle.format_filter.specs.declared.choice.Choice.{Choice}
@@ -64,7 +64,7 @@ first_behind to [] = Err 2
 first_behind to (name ∷ rest) =
     if bytes_eq name (codes "rate") then rate_behind to rest else Err 2
 
--- THE WORDS behind `format`
+-- THE WORDS after `format`
 abbrev pub format_behind : List (List ℕ) → Result Request ℕ
 format_behind [] = Err 1
 format_behind (to ∷ rest) = if is_file_word to then first_behind to rest else Err 1

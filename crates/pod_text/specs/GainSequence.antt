@@ -1,5 +1,5 @@
 -- The control sequence of points: of each a control of kind Properties (1) at its offset, whose
--- value is an Object of type Props with its gain alone. Source: PipeWire's documentation, "SPA
+-- value is an Object of type Props with only its gain. Source: PipeWire's documentation, "SPA
 -- POD"; spa/control/control.h, spa/param/props.h. The key of a gain is this project's.
 use Rattle.std.specs.Prelude.{◌≡◌, List, [], ◌∷◌, ℤ}
 use Rattle.std.specs.List.{AllZip}

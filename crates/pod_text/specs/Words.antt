@@ -11,7 +11,7 @@ use Rattle.pod_text.specs.Alone.{alone}
 use Rattle.pod_text.specs.FormatWords.{format_behind}
 pub use Rattle.pod_text.specs.FileWords.{is_dash, is_file_word}
 
--- the words behind `gains` or `pod`: what is read, and where the POD goes
+-- the words after `gains` or `pod`: what is read, and where the POD goes
 abbrev pub made_to : Source → List ℕ → List (List ℕ) → Result Request ℕ
 made_to source from [] = Err 2
 made_to source from (to ∷ rest) =

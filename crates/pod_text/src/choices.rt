@@ -101,7 +101,7 @@ fn one_of(alloc: Global, values: Items<Pod>) -> Result<Option<Choice>, Memory>
     }
 }
 
-// A step behind a least and a greatest number.
+// A step after a least and a greatest number.
 fn step_behind(min: u32, max: u32, rest: &[u8]) -> Option<Choice>
     requires { (min ≤ 2147483647) × (max ≤ 2147483647) }
     ensures said { result
@@ -118,7 +118,7 @@ fn step_behind(min: u32, max: u32, rest: &[u8]) -> Option<Choice>
     }
 }
 
-// What stands behind a least number and two dots: the greatest, and a step where one is.
+// What is after a least number and two dots: the greatest, and a step where one is.
 fn behind_min(min: u32, rest: &[u8]) -> Option<Choice>
     requires { min ≤ 2147483647 }
     ensures said { result ≡ said.behind_min min (slice_split said.is_slash rest.now) }
@@ -134,7 +134,7 @@ fn behind_min(min: u32, rest: &[u8]) -> Option<Choice>
     }
 }
 
-// A Range or a Step from a least number, if nothing stands between the two dots.
+// A Range or a Step from a least number, if nothing is between the two dots.
 fn spread(gap: &[u8], min: &[u8], rest: &[u8]) -> Option<Choice>
     ensures said { result ≡ said.spread gap.now (said.number_said min.now) rest.now }
     ensures sound { IfSome result IsSound }
@@ -148,7 +148,7 @@ fn spread(gap: &[u8], min: &[u8], rest: &[u8]) -> Option<Choice>
     }
 }
 
-// What stands behind two dots of a word.
+// What is after two dots of a word.
 fn behind_gap(min: &[u8], gap: &[u8], rest: &[u8]) -> Option<Choice>
     ensures said { result ≡ said.behind_first min.now
         (gap.now ∷ slice_split said.is_dot rest.now) }
@@ -161,7 +161,7 @@ fn behind_gap(min: &[u8], gap: &[u8], rest: &[u8]) -> Option<Choice>
     }
 }
 
-// What stands behind the first dot of a word.
+// What is after the first dot of a word.
 fn behind_dot(min: &[u8], rest: &[u8]) -> Option<Choice>
     ensures said { result ≡ said.behind_first min.now (slice_split said.is_dot rest.now) }
     ensures sound { IfSome result IsSound }

@@ -60,7 +60,7 @@ fn gain_of(number: &[u8]) -> Option<i32>
 }
 
 /// The gain in 1/256 of a word such as `-6dB`: a whole number of decibels from -60 to 42, and the
-/// unit behind it. Takes no memory.
+/// unit after it. Takes no memory.
 pub(crate) fn decibels_in(word: &[u8]) -> Option<i32>
     ensures is { result ≡ decibels_of word.now }
     ensures within { IfSome result IsGain }

@@ -1,6 +1,6 @@
 //! Where bytes go.
 ghost use Rattle.std.specs.Prelude.{◌≡◌, IfOk};
-ghost use Rattle.command_frame.specs.working.Ending.{IsDeliverable};
+ghost use Rattle.command_frame.specs.Ending.{IsDeliverable};
 ghost use Rattle.pod_text.specs.Delivery.{put_work, store_work, goes_to};
 ghost use Rattle.pod_text.specs.Statuses.{statuses};
 

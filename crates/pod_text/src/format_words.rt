@@ -1,4 +1,4 @@
-//! The words behind `format`.
+//! The words after `format`.
 ghost use Rattle.std.specs.Prelude.{◌≡◌, map, string_bytes, Ok, IfOk};
 ghost use Rattle.format_filter.specs.Soundness.{IsSound};
 ghost use Rattle.pod_text.specs.Offers.{offer_of};
@@ -50,7 +50,7 @@ fn format_request(
     }
 }
 
-// The request of a key, if nothing stands behind its words.
+// The request of a key, if nothing is after its words.
 fn alone(
     alloc: Global,
     to: &String,
@@ -88,7 +88,7 @@ fn key_of(word: &String) -> Option<Key>
     }
 }
 
-// The key behind `mandatory`.
+// The key after `mandatory`.
 fn read_key(
     alloc: Global,
     to: &String,
@@ -110,7 +110,7 @@ fn read_key(
     }
 }
 
-// The words behind the channels.
+// The words after the channels.
 fn read_mandatory(
     alloc: Global,
     to: &String,
@@ -135,7 +135,7 @@ fn read_mandatory(
     }
 }
 
-// The word behind `channels`.
+// The word after `channels`.
 fn read_channels(
     alloc: Global,
     to: &String,
@@ -157,7 +157,7 @@ fn read_channels(
     }
 }
 
-// The words behind the rate.
+// The words after the rate.
 fn read_second(
     alloc: Global,
     to: &String,
@@ -181,7 +181,7 @@ fn read_second(
     }
 }
 
-// The word behind `rate`.
+// The word after `rate`.
 fn read_rate(alloc: Global, to: &String, rest: &[String]) -> Result<Request, Misread>
     ensures read { IsAsked (said.rate_behind (string_bytes to.now) (map string_bytes rest.now))
         result }
@@ -197,7 +197,7 @@ fn read_rate(alloc: Global, to: &String, rest: &[String]) -> Result<Request, Mis
     }
 }
 
-// The words behind the file.
+// The words after the file.
 fn read_first(alloc: Global, to: &String, rest: &[String]) -> Result<Request, Misread>
     ensures read { IsAsked (said.first_behind (string_bytes to.now) (map string_bytes rest.now))
         result }
@@ -215,7 +215,7 @@ fn read_first(alloc: Global, to: &String, rest: &[String]) -> Result<Request, Mi
     }
 }
 
-/// The words behind `format`.
+/// The words after `format`.
 pub(crate) fn read_format_words(alloc: Global, rest: &[String]) -> Result<Request, Misread>
     ensures read { IsAsked (said.format_behind (map string_bytes rest.now)) result }
     ensures sound { IfOk result HasSoundFormat }

@@ -41,7 +41,7 @@ fn point_at(before: u32, frame: &[u8], gain: &[u8]) -> Result<Option<Point>, Lis
     }
 }
 
-// The point that two words say, behind the first of which this stands.
+// The point that two words say, after the first of which this is.
 fn point_behind(before: u32, frame: &[u8], rest: &[u8]) -> Result<Option<Point>, ListWhy>
     ensures said { result ≡ point_of_words before (frame.now ∷ words_of rest.now) }
     ensures behind { IfOk result (λ point. IfSome point (IsBehind before)) }

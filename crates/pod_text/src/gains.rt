@@ -41,7 +41,7 @@ fn add_line(
 /// Words are parted by blanks; a line without a word, or whose first begins with `#`, says nothing.
 /// A frame is a number from 0 to 4294967295, not below that of the point before it. A gain is a
 /// number in 1/256 from -32767 to 32767, or a whole number of decibels from -60 to 42 with `dB`
-/// behind it, rounded to the nearest 1/256. Of a line the number of its words is looked at first,
+/// after it, rounded to the nearest 1/256. Of a line the number of its words is looked at first,
 /// then its frame, then its gain. Takes memory for the points; one look at each byte for the line's
 /// end, and some more at those of its words.
 pub fn read_gains(alloc: Global, bytes: &[u8]) -> Result<Points, ListFault>

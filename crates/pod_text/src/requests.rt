@@ -1,7 +1,7 @@
 //! The requests of the program, up to what is to be stored or put.
 ghost use Rattle.std.specs.Prelude.{◌≡◌, ◌-◌, [], Ok, Err, OnOk, slice_index_or};
-ghost use Rattle.command_frame.specs.working.Ending.{CommandCause, IsDeliverable};
-ghost use Rattle.command_frame.specs.working.Preparing.{LoadsOnly, Tells};
+ghost use Rattle.command_frame.specs.Ending.{CommandCause, IsDeliverable};
+ghost use Rattle.command_frame.specs.Preparing.{LoadsOnly, Tells};
 ghost use Rattle.format_filter.specs.CommonFormat.{IsSoundFormat};
 ghost use Rattle.graph_script.specs.Lexical.{lines_of};
 ghost use Rattle.pod_text.specs.Answers.{IsRefusedBy, IsMadeWork, IsFormatWork, IsHelpWork, IsMakeAnswer};

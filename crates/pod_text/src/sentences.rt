@@ -103,7 +103,7 @@ fn put_line_fault(
     text.extend(why)
 }
 
-// What is wrong, without what stands before and behind it.
+// What is wrong, without what is before and after it.
 fn put_fault(text: &mut Text, status: &Status, words: &[String], line: &[u8]) -> Result<(), Memory>
     ensures { OnOk result (text.new ≡ text.old
         ++ fault_text status.now (map string_bytes words.now) line.now) }

@@ -22,7 +22,7 @@ const PROPERTIES: u32 = 1;
 /// The key of a gain; one of the custom keys of `spa/param/props.h`.
 const GAIN: u32 = 0x1000001;
 
-// The property of a gain, alone.
+// Only the property of a gain.
 fn gain_alone(alloc: Global, g: i32) -> Result<Items<Prop>, Memory>
     ensures { IfOk result (HasGain g) }
 {
@@ -81,7 +81,7 @@ fn sequence_with(controls: Items<Control>) -> Pod
 }
 
 /// The control sequence of points: for each a control of kind Properties at its offset, whose value
-/// is an Object of type Props with the gain alone, an Int. `control_sequence::controls_of` reads
+/// is an Object of type Props with only the gain, an Int. `control_sequence::controls_of` reads
 /// these points of it again. Takes memory for each point.
 ///
 /// Public source: PipeWire's documentation, "SPA POD"; `spa/control/control.h`,

@@ -34,7 +34,7 @@ fn explained(alloc: Global, words: &[String], status: Status, line: &[u8]) -> Re
 
 /// Makes the POD that the words of a command line ask for, and delivers it.
 ///
-/// The words are those behind the program's own name: `gains LIST OUT` makes the control sequence
+/// The words are those after the program's own name: `gains LIST OUT` makes the control sequence
 /// of a list of gains, `pod TEXT OUT` the value whose dump a text is, `format OUT rate VALUES
 /// channels VALUES [mandatory KEY]` the object of an offer, `--help` puts the commands. Where a
 /// file is meant, `-` is standard input, which is loaded as `/dev/stdin`, or standard output. What

@@ -69,7 +69,7 @@ fn make_request(
     }
 }
 
-// The words behind the file that is read.
+// The words after the file that is read.
 fn read_out(
     alloc: Global,
     source: Source,
@@ -94,7 +94,7 @@ fn read_out(
     }
 }
 
-// The words behind `gains` or `pod`.
+// The words after `gains` or `pod`.
 fn read_made_words(alloc: Global, source: Source, rest: &[String]) -> Result<Request, Misread>
     ensures read { IsAsked (made_behind source (map string_bytes rest.now)) result }
     ensures sound { IfOk result HasSoundFormat }

@@ -1,7 +1,7 @@
 use Rattle.std.proofs.Common.{subst}
 use Rattle.std.specs.Prelude.{Err}
 use Rattle.pw_outside.specs.declared.files.FileFail.{FileFail}
-use Rattle.command_frame.specs.working.Delivery.{TextDone}
+use Rattle.command_frame.specs.Delivery.{TextDone}
 use Rattle.command_frame.proofs.FinishLemmas.{text_short}
 use Rattle.command_frame.proofs.delivering.end_text.Goals as goal
 

@@ -1,6 +1,6 @@
 use Rattle.std.proofs.Common.{subst, sym}
 use Rattle.pw_outside.specs.Files.{names_in}
-use Rattle.command_frame.specs.working.Ending.{Ends}
+use Rattle.command_frame.specs.Ending.{Ends}
 use Rattle.graph_pictures.specs.Answers.{IsPicture}
 use Rattle.graph_pictures.specs.Statuses.{statuses}
 use Rattle.graph_pictures.proofs.reading.picture_of.Goals as goal

@@ -1,4 +1,4 @@
--- The pieces that are left, behind the values so far, make the values of the word.
+-- The pieces that are left, after the values so far, make the values of the word.
 use Rattle.std.proofs.Common.{◌≡◌, length, All}
 use Rattle.std.specs.Prelude.{Some, fold}
 use Rattle.std.specs.List.{slice_split}

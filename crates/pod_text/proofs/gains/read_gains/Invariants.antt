@@ -1,4 +1,4 @@
--- The lines that are left, behind the points so far, make the list.
+-- The lines that are left, after the points so far, make the list.
 use Rattle.std.proofs.Common.{◌≤◌, length, ◌≡◌, ◌+◌}
 use Rattle.graph_script.specs.Lexical.{lines_of}
 use Rattle.pod_text.specs.GainList.{gains_of}

@@ -1,4 +1,4 @@
--- The line that is looked for stands at the same place of the lines that are left.
+-- The line that is looked for is at the same place of the lines that are left.
 use Rattle.std.proofs.Common.{◌≡◌, ◌-◌, ◌≤◌, []}
 use Rattle.std.specs.Prelude.{slice_index_or}
 use Rattle.graph_script.specs.Lexical.{lines_of}

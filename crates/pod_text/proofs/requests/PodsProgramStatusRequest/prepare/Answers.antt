@@ -1,7 +1,7 @@
 -- A request is answered.
 use Rattle.std.proofs.Common.{[], subst, sym}
 use Rattle.pw_outside.specs.Files.{names_in}
-use Rattle.command_frame.specs.working.Ending.{Ends, IsDeliverable}
+use Rattle.command_frame.specs.Ending.{Ends, IsDeliverable}
 use Rattle.command_frame.proofs.AllowedLemmas.{part_quiet}
 use Rattle.pod_text.specs.declared.words.Request.{Request}
 use Rattle.pod_text.specs.Answers.{IsAnswerTo, IsHelpWork, IsFormatWork}

@@ -6,7 +6,7 @@ use Rattle.command_frame.specs.declared.work.Work.{Work}
 use Rattle.command_frame.specs.Answer.{Expected}
 use Rattle.command_frame.specs.FaultCauses.{IsUsage}
 use Rattle.command_frame.specs.Statuses.{Statuses}
-use Rattle.command_frame.specs.working.Ending.{Ends}
+use Rattle.command_frame.specs.Ending.{Ends}
 
 -- what is held stays, the count of failed loads did not fall, and no store failed; each before and
 -- after

@@ -9,8 +9,8 @@ use Rattle.command_frame.specs.Answer.{Answer}
 use Rattle.command_frame.specs.Headline.{Follows}
 use Rattle.command_frame.specs.Outside.{Outside}
 use Rattle.command_frame.specs.Statuses.{Statuses}
-use Rattle.command_frame.specs.working.Delivery.{LineEnds}
-use Rattle.command_frame.specs.working.Ending.{IsDeliverable}
+use Rattle.command_frame.specs.Delivery.{LineEnds}
+use Rattle.command_frame.specs.Ending.{IsDeliverable}
 
 -- what ends accepted work, with its cause
 abbrev pub IsWorkEnd : Outside → Outside → End → Type 0
