@@ -24,11 +24,15 @@ WAVES = [
     ("NotPcm16", riff(chunk(b"fmt ", form(tag=3))), PCM),
     ("NoData", riff(chunk(b"fmt ", form())), "there is no data chunk"),
     ("Truncated", riff(chunk(b"fmt ", form()), chunk(b"data", b"", 2)),
-     "a chunk passes the end of the file"),
+     "a chunk passes the end of the file, as where it was cut or written to a pipe; "
+     "sox --ignore-length A B may mend it"),
     ("Uneven", riff(chunk(b"fmt ", form()), chunk(b"data", bytes(3))),
      "the samples are not whole frames"),
     ("ChannelsOrRate", riff(chunk(b"fmt ", form(channels=9))),
      "only 1 to 8 channels at 1 to 384000 frames a second are read")]
+
+# What is said otherwise of a file that is drawn.
+DRAWN = {"Truncated": "a chunk passes the end of the file"}
 
 # A POD that is none, what its line says after the cause, and what is said of it.
 PODS_AT_FAULT = [
@@ -49,19 +53,19 @@ REST = [("Rest", number(1) + bytes(8), "16", "the file goes on behind its POD, a
 FORMATS = [
     ("NotObject", number(1), "", "the POD is no object"),
     ("KeyTwice", thing((RATE, number(1)), (RATE, number(1))), f"{RATE}",
-     f"a property stands twice, under key {RATE} (rate)"),
+     f"a property stands twice, under key {RATE} (a format's rate)"),
     ("FlagsChoice", thing((1, choice(4, 1, 2))), "1",
-     "a choice of flags, under key 1 (media type)"),
+     "a choice of flags, under key 1 (a format's media type)"),
     ("BadRange", thing((RATE, choice(1, 5, 9, 1))), f"{RATE}",
-     f"a range that is none, under key {RATE} (rate)"),
+     f"a range that is none, under key {RATE} (a format's rate)"),
     ("BadStep", thing((65540, choice(2, 1, 1, 8, 0))), "65540",
-     "a step that is none, under key 65540 (channels)"),
+     "a step that is none, under key 65540 (a format's channels)"),
     ("EmptyChoice", thing((7, choice(3))), "7", "a choice without a value, under key 7")]
 
 # An object that an offer does not take.
 OFFERS = [("NotFormat", thing(kind=0x40004), "", "the object is no format"),
           ("Clash", thing((RATE, number(0))), f"{RATE}",
-           f"nothing is left of what the port offers, under key {RATE} (rate)")]
+           f"nothing is left of what the port offers, under key {RATE} (a format's rate)")]
 
 SEQUENCES = [
     ("NotSequence", number(1), "", "the POD is no control sequence"),
@@ -70,7 +74,7 @@ SEQUENCES = [
     ("NotProps", sequence((0, number(1))), "0",
      "a value that is no properties object, in control 0"),
     ("GainForm", sequence((0, props(number(32768)))), "0",
-     "a gain that is no Int from -32767 to 32767, in control 0")]
+     "a gain that is no Int from -32767 to 32767, in control 0; 256 is 0 dB")]
 
 LINKED = "gain a 1\ngain b 1\nlink a.out b.in\n"
 
@@ -163,7 +167,8 @@ def waves(place):
         of_scripts(place, "wave.graph", 3, f"wav 2 {why}", f"2: bad.wav: {sentence}")
         refused(place, ["automate", "bad.wav", "gains.pod", "o"], 3, f"wav 1 {why}",
                 f"bad.wav: {sentence}")
-        refused(place, ["wave", "bad.wav"], 3, f"wav 1 {why}", f"bad.wav: {sentence}", PICTURES)
+        refused(place, ["wave", "bad.wav"], 3, f"wav 1 {why}",
+                f"bad.wav: {DRAWN.get(name, sentence)}", PICTURES)
 
 
 def numbered(rows, numbers):
@@ -257,9 +262,12 @@ def limits_of_scripts():
     names, pairs = wide_pairs()
     return [
         ("Links", names + "".join(pairs), 307, "more than 256 links at a time"),
-        ("Events", "meter m\ncycles 1000000\n", 2, "more than 4194304 events"),
+        ("Events", "meter m\ncycles 1000000\n", 2, "more than 4194304 events; "
+         "three are counted for each cycle, and two for each active node in it, "
+         "the driver among them"),
         ("SinkSamples", "quantum 8192\nsquare q 48000 8 2 5\nsink o o.wav\nlink q.out o.in\n"
-         "cycles 3000\n", 5, "the sinks would keep more than 134217728 samples"),
+         "cycles 3000\n", 5, "the sinks would keep more than 134217728 samples, "
+         "23 minutes of stereo at 48000 a second"),
         ("BlockBytes", "quantum 8192\n" + names + "".join(pairs[:255])
          + "cycles 1\noff q0\ncycles 1\n", 309, "the buffers would have more than 268435456 bytes")]
 

@@ -33,7 +33,8 @@ def sentences(place):
             (["run", "wav.graph"], 3, "wav 1 1\n",
              "wav.graph:1: vox.wav: this is no RIFF WAVE file"),
             (["run", "gone.graph"], 5, "absent 1\n",
-             "gone.graph:1: gone.wav: there is no such file"),
+             "gone.graph:1: gone.wav: there is no such file; "
+             "file words are paths from the working directory"),
             (["run", "none.graph"], 5, "absent 0\n", "none.graph: there is no such file"),
             (["run", "."], 6, "read 0\n", ".: the file cannot be read"),
             (["run", "pod.graph"], 4, "pod 2 6 1481001298\n",
@@ -53,9 +54,24 @@ def sentences(place):
         place.same(f"{words} without one", wanted[:2],
                    told(place, words, closed=[2])[:2])
     for words, sentence in [
-            (["run"], "a word is missing"),
-            (["play"], 'this word is wrong here: "play"'),
-            (["soak", "07"], 'this word is wrong here: "07"')]:
+            (["run"], 'a word is missing after "run"'),
+            (["play"], '"play" is no command'),
+            (["runn", "a"], '"runn" is no command; did you mean "run"?'),
+            (["take.graph"], '"take.graph" is no command; did you mean: pipegraph run take.graph?'),
+            (["my take.graph"], '"my take.graph" is no command'),
+            (["run", "a", "--loop", "2"], '"--loop" is no option; did you mean "--loops"?'),
+            (["run", "a", "--loops=2"],
+             '"--loops=2": the value is a word of its own, as in --loops 2'),
+            (["run", "a", "--loops", "17"],
+             '"17": N of --loops is 0 to 16, without a leading zero'),
+            (["run", "a", "--trace", "--trace"], '"--trace" is there already'),
+            (["run", "--trace", "a"], '"--trace" is no SCRIPT; SCRIPT comes before the options'),
+            (["run", "a", "b"],
+             '"b" is no option; these are --loops N, --ticks N, --trace and --steal'),
+            (["run", "a" * 100000],
+             f'"{"a" * 200}..": a file word has 1 to 255 bytes, the first of them no -'),
+            (["dump", "a", "b"], '"b" is one word too many'),
+            (["soak", "07"], '"07": NUMBER is 0 to 4294967295, without a leading zero')]:
         place.same(" ".join(words), f"pipegraph: {sentence}\n{SYNOPSIS}".encode(),
                    told(place, words)[2])
     for words in [[], ["-h"], ["--help"], ["--version"]]:

@@ -22,10 +22,11 @@ LINKS = [
      [(9, '"b.out" to "o.in" is no link: no common rate (key 65539)')]),
     ("link a.out o.in\nlink c.out o.in\n",
      "link a.out o.in 48000 1 2\nnolink c.out o.in 65540\n",
-     [(9, '"c.out" to "o.in" is no link: no common channels (key 65540)')]),
+     [(9, '"c.out" to "o.in" is no link: no common channels (key 65540); '
+      'map NAME 1 0,0 makes two channels of one')]),
     ("buffers a out 2\nbuffers o in 3\nlink a.out o.in\n", "nolink a.out o.in buffers\n",
      [(10, '"a.out" to "o.in" is no link: no number of buffers suits both ports'),
-      (5, '"o" had no format at the end, so "o.wav" is not written')]),
+      (5, '"o" had no format at the end, so it does not write "o.wav"')]),
     ("link a.out o.in\n# a comment\nlink a.out o.in\nunlink b.out o.in\nlink a.out o.in\n",
      "link a.out o.in 48000 1 2\nnolink a.out o.in twice\nnounlink b.out o.in\n"
      "nolink a.out o.in twice\n",
@@ -40,7 +41,7 @@ LINKS = [
      "link a.out o.in 48000 1 2\nlink a.out q.in 48000 1 2\n",
      [(5, '"o.wav" is written by a later sink too, whose frames stand'),
       (9, '"m" had no format at the end, so it has no peak'),
-      (10, '"p" had no format at the end, so "p.wav" is not written')])]
+      (10, '"p" had no format at the end, so it does not write "p.wav"')])]
 
 
 def links(place):
@@ -71,7 +72,8 @@ def others(place):
             (events, "legal\n", ""),
             (events[:-1], f"illegal {len(events)}\n", f"t.txt:{len(events)}: {cannot}"),
             (events[:1] * 2, "illegal 2\n", f"t.txt:2: {cannot}"),
-            (events[:1] + ["start"], "line 2\n", "t.txt:2: this is no event line")]:
+            (events[:1] + ["start"], "line 2\n", "t.txt:2: no event line; "
+             "grep -E '^(begin|start|finish|tick|end) ' takes those of a run's text")]:
         place.file("t.txt", "".join(line + "\n" for line in lines))
         said = f"pipegraph: {said}\n" if said else ""
         place.same(f"check {lines}", (0, answer.encode(), said.encode()),
@@ -79,8 +81,9 @@ def others(place):
     a = thing((65539, number(48000)), (7, choice(3, 1, 1)))
     for b, answer, said in [
             (a, "common\n", ""),
-            (thing((65539, number(44100))), "clash 65539\n", "no common rate (key 65539)"),
-            (thing((7, number(2))), "clash 7\n", "no common value (key 7)"),
+            (thing((65539, number(44100))), "clash 65539\n",
+             "no common value under key 65539 (a format's rate)"),
+            (thing((7, number(2))), "clash 7\n", "no common value under key 7"),
             (thing(kind=0x40004), "clash type\n", "objects of different types")]:
         place.file("a.pod", a)
         place.file("b.pod", b)

@@ -13,6 +13,8 @@ mod messages;
 #[cfg(test)]
 mod notes;
 #[cfg(test)]
+mod people;
+#[cfg(test)]
 mod pods;
 #[cfg(test)]
 mod programs;

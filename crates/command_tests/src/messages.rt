@@ -74,7 +74,7 @@ const SCRIPTS: &'static [(ScriptWhy, &'static [u8], &'static [u8])] = &[
     (
         ScriptWhy::Byte,
         b"\xef\xbb\xbfquantum 4",
-        b"a byte that no script may have: 239, in column 1",
+        b"the line begins with a UTF-8 mark: save the file without it",
     ),
     (
         ScriptWhy::Command,
@@ -105,12 +105,12 @@ const SCRIPTS: &'static [(ScriptWhy, &'static [u8], &'static [u8])] = &[
     (
         ScriptWhy::Arguments,
         b"drain 3",
-        b"\"drain\" takes these words: drain",
+        b"\"drain\" takes no words",
     ),
     (
         ScriptWhy::Number,
         b"gain a 01",
-        b"\"01\": a gain is -32767 to 32767, in 1/256",
+        b"\"01\": a gain is -32767 to 32767, in 1/256: 256 is 0 dB, 128 is 0.5 or -6 dB",
     ),
     (
         ScriptWhy::Number,
@@ -130,7 +130,7 @@ const SCRIPTS: &'static [(ScriptWhy, &'static [u8], &'static [u8])] = &[
     (
         ScriptWhy::Number,
         b"mix2 m -8 40000",
-        b"\"40000\": a gain is -32767 to 32767, in 1/256",
+        b"\"40000\": a gain is -32767 to 32767, in 1/256: 256 is 0 dB, 128 is 0.5 or -6 dB",
     ),
     (
         ScriptWhy::Number,
@@ -145,7 +145,7 @@ const SCRIPTS: &'static [(ScriptWhy, &'static [u8], &'static [u8])] = &[
     (
         ScriptWhy::Number,
         b"delay d 1e3",
-        b"\"1e3\": FRAMES is 0 to 65536",
+        b"\"1e3\": FRAMES is 0 to 65536: 300 ms at 48000 a second are 14400",
     ),
     (
         ScriptWhy::Number,
@@ -187,7 +187,7 @@ const SCRIPTS: &'static [(ScriptWhy, &'static [u8], &'static [u8])] = &[
     (
         ScriptWhy::NameTaken,
         b"gain dummy 1",
-        b"the name is taken: \"dummy\"",
+        b"\"dummy\" is the built-in driver's name",
     ),
     (
         ScriptWhy::NameUnknown,
@@ -202,27 +202,12 @@ const SCRIPTS: &'static [(ScriptWhy, &'static [u8], &'static [u8])] = &[
     (
         ScriptWhy::PortUnknown,
         b"offer o out f.pod",
-        b"\"o\" has no port \"out\"",
+        b"the node has no such port",
     ),
     (
         ScriptWhy::PortUnknown,
         b"unlink a.in\ta.in",
-        b"\"a.in\" is no output; outputs are out, and left and right of a split",
-    ),
-    (
-        ScriptWhy::PortUnknown,
-        b"link o.in s.out",
-        b"\"o.in\" is no output and \"s.out\" no input; a link goes from an output to an input",
-    ),
-    (
-        ScriptWhy::PortUnknown,
-        b"link s.out g.out",
-        b"\"g.out\" is no input; inputs are in, and a and b of a mix2",
-    ),
-    (
-        ScriptWhy::PortUnknown,
-        b"link s.out m.in",
-        b"\"s.out\" is no output, or \"m.in\" no input",
+        b"the node has no such port",
     ),
     (
         ScriptWhy::QuantumLate,
@@ -319,7 +304,11 @@ const WAVES: &'static [(WavFault, &'static [u8])] = &[
     (WavFault::BadFmt, b"the fmt chunk is not sound"),
     (WavFault::NotPcm16, b"only PCM of 16 bits a sample is read"),
     (WavFault::NoData, b"there is no data chunk"),
-    (WavFault::Truncated, b"a chunk passes the end of the file"),
+    (
+        WavFault::Truncated,
+        b"a chunk passes the end of the file, as where it was cut or written to a pipe; \
+            sox --ignore-length A B may mend it",
+    ),
     (WavFault::Uneven, b"the samples are not whole frames"),
     (
         WavFault::ChannelsOrRate,
@@ -410,19 +399,19 @@ const PODS: &'static [(PodWhy, &'static [u8])] = &[
     (PodWhy::NotObject, b"the POD is no object"),
     (
         PodWhy::KeyTwice { key: 1 },
-        b"a property stands twice, under key 1 (media type)",
+        b"a property stands twice, under key 1 (a format's media type)",
     ),
     (
         PodWhy::FlagsChoice { key: 2 },
-        b"a choice of flags, under key 2 (media subtype)",
+        b"a choice of flags, under key 2 (a format's media subtype)",
     ),
     (
         PodWhy::BadRange { key: 65537 },
-        b"a range that is none, under key 65537 (sample format)",
+        b"a range that is none, under key 65537 (a format's sample format)",
     ),
     (
         PodWhy::BadStep { key: 65540 },
-        b"a step that is none, under key 65540 (channels)",
+        b"a step that is none, under key 65540 (a format's channels)",
     ),
     (
         PodWhy::EmptyChoice { key: 5 },
@@ -431,7 +420,7 @@ const PODS: &'static [(PodWhy, &'static [u8])] = &[
     (PodWhy::NotFormat, b"the object is no format"),
     (
         PodWhy::Clash { key: 65539 },
-        b"nothing is left of what the port offers, under key 65539 (rate)",
+        b"nothing is left of what the port offers, under key 65539 (a format's rate)",
     ),
     (PodWhy::NotSequence, b"the POD is no control sequence"),
     (
@@ -444,7 +433,7 @@ const PODS: &'static [(PodWhy, &'static [u8])] = &[
     ),
     (
         PodWhy::GainForm { index: 1 },
-        b"a gain that is no Int from -32767 to 32767, in control 1",
+        b"a gain that is no Int from -32767 to 32767, in control 1; 256 is 0 dB",
     ),
 ];
 
@@ -576,7 +565,8 @@ const LIMITS: &'static [Said] = &[
             place: 9,
             which: Which::Events,
         },
-        b"more than 4194304 events",
+        b"more than 4194304 events; three are counted for each cycle, and two for each active \
+            node in it, the driver among them",
     ),
     (
         OF_SCRIPT,
@@ -584,7 +574,7 @@ const LIMITS: &'static [Said] = &[
             place: 9,
             which: Which::SinkSamples,
         },
-        b"the sinks would keep more than 134217728 samples",
+        b"the sinks would keep more than 134217728 samples, 23 minutes of stereo at 48000 a second",
     ),
     (
         OF_SCRIPT,
@@ -639,7 +629,7 @@ const FILES: &'static [Said] = &[
     (
         OF_SINK,
         Status::Absent { place: 4 },
-        b"there is no such file",
+        b"there is no such file; file words are paths from the working directory",
     ),
     (
         Asked {
@@ -700,7 +690,7 @@ const USAGES: &'static [Said] = &[
         Asked {
             command: "run -s",
             line: None,
-            before: b"this word is wrong here: \"-s\"\n",
+            before: b"\"-s\" is no SCRIPT; SCRIPT comes before the options\n",
         },
         Status::Usage { word: 1 },
         SYNOPSIS,
@@ -709,7 +699,7 @@ const USAGES: &'static [Said] = &[
         Asked {
             command: "filter a",
             line: None,
-            before: b"a word is missing\n",
+            before: b"a word is missing after \"a\"\n",
         },
         Status::Usage { word: 2 },
         SYNOPSIS,

@@ -61,7 +61,8 @@ const SINKS: &'static [Noted] = &[
     Noted {
         script: Some(b"sink o o.wav\nmeter m\nsink p o.wav\nmeter n\n"),
         told: Some(b"unused o\nunused m\nwrote p 4\npeak n 3\n"),
-        notes: b"pipegraph: t.graph:1: \"o\" had no format at the end, so \"o.wav\" is not written\n\
+        notes: b"pipegraph: t.graph:1: \"o\" had no format at the end, \
+            so it does not write \"o.wav\"\n\
             pipegraph: t.graph:2: \"m\" had no format at the end, so it has no peak\n",
         ..RUN
     },
@@ -69,7 +70,7 @@ const SINKS: &'static [Noted] = &[
         script: Some(b"sink o o.wav\nsink p o.wav\nsink q q.wav\nsink r o.wav\n"),
         told: Some(b"wrote o 4\nwrote p 4\nwrote q 4\nunused r\n"),
         notes: b"pipegraph: t.graph:1: \"o.wav\" is written by a later sink too, whose frames stand\n\
-            pipegraph: t.graph:4: \"r\" had no format at the end, so \"o.wav\" is not written\n",
+            pipegraph: t.graph:4: \"r\" had no format at the end, so it does not write \"o.wav\"\n",
         ..RUN
     },
 ];
@@ -86,7 +87,8 @@ const OTHERS: &'static [Noted] = &[
     Noted {
         command: "check t.graph t.txt",
         told: Some(b"line 12\n"),
-        notes: b"pipegraph: t.txt:12: this is no event line\n",
+        notes: b"pipegraph: t.txt:12: no event line; \
+            grep -E '^(begin|start|finish|tick|end) ' takes those of a run's text\n",
         ..RUN
     },
     Noted {
@@ -98,7 +100,8 @@ const OTHERS: &'static [Noted] = &[
         command: "filter a.pod b.pod c.pod",
         script: None,
         told: Some(b"clash 65540\n"),
-        notes: b"pipegraph: a.pod and b.pod: no common channels (key 65540)\n",
+        notes: b"pipegraph: a.pod and b.pod: no common value under key 65540 \
+            (a format's channels)\n",
     },
     Noted {
         command: "filter a.pod b.pod c.pod",

@@ -1,7 +1,5 @@
--- Laws of `specs/LinkNotes.antt`, `specs/SinkNotes.antt` and `specs/UnknownNames.antt`: lines one by
--- one.
-use Rattle.std.proofs.Common.{◌≡◌, ℕ, suc, ◌+◌, ◌-◌, ◌<◌, Bool, false, ◌||◌, List, [], ◌∷◌, ◌++◌, take, sym, ap, ◌∙◌, arith}
-use Rattle.std.specs.List.{list_any}
+-- Laws of `specs/LinkNotes.antt`, `specs/SinkNotes.antt` and `specs/Makers.antt`: lines one by one.
+use Rattle.std.proofs.Common.{◌≡◌, ℕ, suc, ◌+◌, ◌-◌, ◌<◌, Bool, false, cond, Some, List, [], ◌∷◌, ◌++◌, take, find, sym, ap, ◌∙◌, arith}
 use Rattle.std.proofs.lemmas.List.{append-nil, append_assoc}
 use Rattle.fault_messages.specs.LinkNotes.{link_part, told_behind, link_notes}
 use Rattle.fault_messages.specs.SinkNotes.{sink_part, sink_notes}
@@ -40,9 +38,9 @@ last_sinks words told n line text all e =
 -- a line that does not pass a test is passed over
 pub skip_line : (p : List ℕ → Bool) (n k : ℕ) (line : List ℕ) (all lines : List (List ℕ)) → k < n
     → all ≡ line ∷ lines → p line ≡ false
-    → list_any p (take (n - k) all) ≡ list_any p (take (n - (k + 1)) lines)
+    → find p (take (n - k) all) ≡ find p (take (n - (k + 1)) lines)
 skip_line p n k line all lines less e fails =
     let m : n - k ≡ suc (n - (k + 1)) = omega (arith, less) in
-    ap (λ j. list_any p (take j all)) m
-    ∙ (ap (λ ls. list_any p (take (suc (n - (k + 1))) ls)) e
-    ∙ ap (λ b. b || list_any p (take (n - (k + 1)) lines)) fails)
+    ap (λ j. find p (take j all)) m
+    ∙ (ap (λ ls. find p (take (suc (n - (k + 1))) ls)) e
+    ∙ ap (λ b. cond b (Some line) (find p (take (n - (k + 1)) lines))) fails)

@@ -1,11 +1,13 @@
 -- What is wrong with a file, in words. Source: WAV faults are those of RIFF WAVE PCM; the
 -- sentences and the limits are this project's own.
-use Rattle.std.specs.Prelude.{ℕ, Bool, true, false, if◌then◌else◌, List, ◌++◌, codes, Option}
+use Rattle.std.specs.Prelude.{ℕ, ◌==◌, Bool, true, false, if◌then◌else◌, List, ◌++◌, codes, Option, Some, None}
+use Rattle.std.specs.List.{list_any}
+use Rattle.graph_script.specs.Lexical.{words_of}
 use Rattle.pw_lists.specs.declared.limit.Which.{Which}
 use Rattle.pw_lists.specs.declared.limit.Which.TheVariants as W
 use Rattle.wav_files.specs.declared.fault.WavFault.{WavFault}
 use Rattle.wav_files.specs.declared.fault.WavFault.TheVariants as F
-use Rattle.fault_messages.specs.Places.{file_part}
+use Rattle.fault_messages.specs.Places.{begins, file_word, file_part}
 
 abbrev pub wav_said : WavFault → List ℕ
 wav_said F.NotRiff = codes "this is no RIFF WAVE file"
@@ -13,10 +15,23 @@ wav_said F.NoFmt = codes "there is no fmt chunk before the samples"
 wav_said F.BadFmt = codes "the fmt chunk is not sound"
 wav_said F.NotPcm16 = codes "only PCM of 16 bits a sample is read"
 wav_said F.NoData = codes "there is no data chunk"
-wav_said F.Truncated = codes "a chunk passes the end of the file"
+wav_said F.Truncated = codes "a chunk passes the end of the file, as where it was cut or written"
+    ++ codes " to a pipe; sox --ignore-length A B may mend it"
 wav_said F.Uneven = codes "the samples are not whole frames"
 wav_said F.ChannelsOrRate = codes "only 1 to 8 channels at 1 to 384000 frames a second are read"
 wav_said F.Memory = codes "no memory was left"
+
+-- of a file that is not there: what a file word of a script is, where it may be meant otherwise
+abbrev pub absent_text : List ℕ → List ℕ
+absent_text file =
+    if list_any (λ b. b == 0x22) file
+    then codes "there is no such file; quotes are a part of the word"
+    else (if begins file (codes "/") then codes "there is no such file"
+    else codes "there is no such file; file words are paths from the working directory")
+
+abbrev pub absent_said : Option (List ℕ) → List ℕ
+absent_said None = codes "there is no such file"
+absent_said (Some line) = absent_text (file_word (words_of line))
 
 abbrev pub limit_said : Which → List ℕ
 limit_said W.ScriptBytes = codes "more than 1048576 bytes"
@@ -26,8 +41,10 @@ limit_said W.PodBytes = codes "more bytes than a POD may have"
 limit_said W.Nodes = codes "more than 63 nodes"
 limit_said W.Epochs = codes "more than 1024 lines of cycles and drain"
 limit_said W.Links = codes "more than 256 links at a time"
-limit_said W.Events = codes "more than 4194304 events"
-limit_said W.SinkSamples = codes "the sinks would keep more than 134217728 samples"
+limit_said W.Events = codes "more than 4194304 events; three are counted for each cycle, and two"
+    ++ codes " for each active node in it, the driver among them"
+limit_said W.SinkSamples =
+    codes "the sinks would keep more than 134217728 samples, 23 minutes of stereo at 48000 a second"
 limit_said W.BlockBytes = codes "the buffers would have more than 268435456 bytes"
 limit_said W.TraceBytes = codes "more than 268435456 bytes"
 

@@ -12,10 +12,10 @@ key_name key =
     else (if key == 65540 then Some (codes "channels")
     else (if key == 65541 then Some (codes "position") else None))))))
 
--- after the number of a key
+-- after the number of a key, which has its name only in a format
 abbrev pub name_part : Option (List ℕ) → List ℕ
 name_part None = []
-name_part (Some name) = codes " (" ++ (name ++ codes ")")
+name_part (Some name) = codes " (a format's " ++ (name ++ codes ")")
 
 abbrev pub key_part : ℕ → List ℕ
 key_part key = name_part (key_name key)
@@ -32,6 +32,10 @@ common_name (Some name) = name
 abbrev pub key_word_name : List ℕ → List ℕ
 key_word_name w = common_name (name_at (number_of 0 4294967295 w))
 
--- a key under which two formats have nothing in common
+-- a key under which two formats have nothing in common, and one of any two objects
 abbrev pub clash_said : List ℕ → List ℕ
 clash_said w = codes "no common " ++ (key_word_name w ++ (codes " (key " ++ (w ++ codes ")")))
+
+unfoldable pub key_clash : List ℕ → List ℕ
+key_clash w =
+    codes "no common value under key " ++ (w ++ name_part (name_at (number_of 0 4294967295 w)))

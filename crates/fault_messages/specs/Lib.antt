@@ -3,9 +3,12 @@ pub mod CommandForms
 pub mod Escaping
 pub mod Explaining
 pub mod FileMessages
+pub mod FormMessages
 pub mod Help
 pub mod KeyNames
 pub mod LinkNotes
+pub mod MainWords
+pub mod Makers
 pub mod Message
 pub mod NameRules
 pub mod Nearest
@@ -20,3 +23,4 @@ pub mod ScriptWords
 pub mod SinkNotes
 pub mod ToldLines
 pub mod UnknownNames
+pub mod Usages

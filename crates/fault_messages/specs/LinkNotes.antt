@@ -14,6 +14,14 @@ loop_said ws =
     then codes "a node is not linked to itself"
     else codes "it would close a loop, which only a link of an async node may"
 
+-- of a key: where the channels differ, what makes two of one
+abbrev pub map_part : List ℕ → List ℕ
+map_part w =
+    if bytes_eq w (codes "65540") then codes "; map NAME 1 0,0 makes two channels of one" else []
+
+abbrev pub key_said : List ℕ → List ℕ
+key_said w = clash_said w ++ map_part w
+
 -- the cause of a line `nolink FROM TO CAUSE`, which may be a key
 unfoldable pub cause_said : List (List ℕ) → List ℕ
 cause_said ws =
@@ -21,7 +29,7 @@ cause_said ws =
     else (if bytes_eq (word ws 3) (codes "twice") then codes "it is there already"
     else (if bytes_eq (word ws 3) (codes "buffers")
     then codes "no number of buffers suits both ports"
-    else clash_said (word ws 3)))
+    else key_said (word ws 3)))
 
 unfoldable pub nolink_head : List ℕ → List ℕ → List ℕ
 nolink_head from to =

@@ -1,12 +1,13 @@
 -- The sentence that a status is printed as, for people. Source: this project's own.
-use Rattle.std.specs.Prelude.{ℕ, ◌==◌, ◌||◌, Bool, false, bytes_eq, nat_lt, if◌then◌else◌, List, [], ◌++◌, length, codes, decimal, Option, Some, None}
+use Rattle.std.specs.Prelude.{ℕ, ◌==◌, ◌||◌, Bool, false, bytes_eq, if◌then◌else◌, List, [], ◌++◌, codes, decimal, Option, Some, None}
 use Rattle.pw_top.specs.declared.status.Status.{Status}
 use Rattle.pw_top.specs.declared.status.Status.TheVariants as S
-use Rattle.fault_messages.specs.Places.{Words, word, place_text, file_part, quoted, lines_before}
+use Rattle.fault_messages.specs.Places.{Words, word, place_text, file_part, lines_before}
 use Rattle.fault_messages.specs.ScriptMessages.{script_said}
 use Rattle.fault_messages.specs.PodMessages.{pod_said}
-use Rattle.fault_messages.specs.FileMessages.{wav_said, limit_text}
+use Rattle.fault_messages.specs.FileMessages.{wav_said, absent_said, limit_text}
 use Rattle.fault_messages.specs.Help.{help}
+use Rattle.fault_messages.specs.Usages.{usage_text}
 
 -- the words of all commands
 abbrev pub synopsis : List ℕ
@@ -16,12 +17,6 @@ synopsis = codes "usage: pipegraph run SCRIPT [--loops N] [--ticks N] [--trace] 
     ++ codes "       pipegraph automate IN SEQ OUT\n"
     ++ codes "       pipegraph check SCRIPT TRACE\n"
     ++ codes "       pipegraph soak NUMBER\n       pipegraph groups SCRIPT\n"
-
--- a word at fault, or one that is missing
-abbrev pub usage_text : List (List ℕ) → ℕ → List ℕ
-usage_text words i =
-    if nat_lt i (length words) then (codes "this word is wrong here: " ++ quoted (word words i))
-    else codes "a word is missing"
 
 -- a place and what is wrong there
 abbrev pub at_place : List (List ℕ) → ℕ → List ℕ → List ℕ
@@ -35,7 +30,7 @@ sentence (S.Script n why) words line script =
 sentence (S.Wav place why) words line script = at_place words place (file_part line ++ wav_said why)
 sentence (S.Pod place why) words line script = at_place words place (file_part line ++ pod_said why)
 sentence (S.Absent place) words line script =
-    at_place words place (file_part line ++ codes "there is no such file")
+    at_place words place (file_part line ++ absent_said line)
 sentence (S.ReadFault place) words line script =
     at_place words place (file_part line ++ codes "the file cannot be read")
 sentence (S.WriteFault place) words line script =

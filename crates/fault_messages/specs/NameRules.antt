@@ -41,10 +41,19 @@ name_place ws =
     if is_pair ws then (if is_end (word ws 1) then 2 else 1)
     else (if is_node_name (word ws 1) then file_place (word ws 0) else 1)
 
--- what it has to be
+-- what it has to be: of an end with one dot the name is at fault
+abbrev pub has_one_dot : List ℕ → Bool
+has_one_dot w = has_dot w && not (has_dot (end_port w))
+
+abbrev pub end_rule : List ℕ → List ℕ
+end_rule w =
+    if has_one_dot w
+    then codes "the name is a lower-case letter and up to 30 of a to z, 0 to 9 and _"
+    else codes "an end is NODE.PORT"
+
 abbrev pub name_rule : List (List ℕ) → ℕ → List ℕ
 name_rule ws place =
-    if is_pair ws then codes "an end is NODE.PORT"
+    if is_pair ws then end_rule (word ws place)
     else (if place == 1
     then codes "a name is a lower-case letter and up to 30 of a to z, 0 to 9 and _"
     else codes "a file word has at most 255 bytes")

@@ -1,7 +1,7 @@
--- The command that is meant by a word that is no command: the first within one letter, or, for
--- words of at least four letters, within two. Source: distances are Levenshtein's; the choice is
--- this project's own.
-use Rattle.std.specs.Prelude.{ℕ, List, codes, length, nat_le, Option, Some, None, if◌then◌else◌}
+-- The command that is meant by a word that is no command: what other programs call it, or the first
+-- within one letter, or, for words of at least six letters, within two. Source: distances are
+-- Levenshtein's; the choice is this project's own.
+use Rattle.std.specs.Prelude.{ℕ, List, codes, length, nat_le, bytes_eq, Option, Some, None, if◌then◌else◌}
 use Rattle.std.specs.Option.{option_or}
 use Rattle.fault_messages.specs.Nearness.{is_near}
 
@@ -45,8 +45,19 @@ abbrev pub nearest : ℕ → List ℕ → Option (List ℕ)
 nearest k word = option_or (node_near k word) (option_or (graph_near k word) (time_near k word))
 
 abbrev pub second_choice : List ℕ → Option (List ℕ)
-second_choice word = if nat_le 4 (length word) then nearest 2 word else None
+second_choice word = if nat_le 6 (length word) then nearest 2 word else None
+
+-- words that other programs have for a command
+unfoldable pub other_word : List ℕ → Option (List ℕ)
+other_word word =
+    if bytes_eq word (codes "connect") then Some (codes "link")
+    else (if bytes_eq word (codes "disconnect") then Some (codes "unlink")
+    else (if bytes_eq word (codes "input") then Some (codes "source")
+    else (if bytes_eq word (codes "output") then Some (codes "sink")
+    else (if bytes_eq word (codes "volume") then Some (codes "gain")
+    else (if bytes_eq word (codes "mixer") then Some (codes "mix2")
+    else None)))))
 
 -- THE COMMAND that is meant
 abbrev pub meant : List ℕ → Option (List ℕ)
-meant word = option_or (nearest 1 word) (second_choice word)
+meant word = option_or (other_word word) (option_or (nearest 1 word) (second_choice word))

@@ -3,7 +3,7 @@
 use Rattle.std.specs.Prelude.{ℕ, ◌||◌, List, [], ◌++◌, codes, bytes_eq, Option, Some, None, if◌then◌else◌}
 use Rattle.graph_script.specs.Lexical.{lines_of, words_of}
 use Rattle.fault_messages.specs.Escaping.{escaped}
-use Rattle.fault_messages.specs.KeyNames.{clash_said}
+use Rattle.fault_messages.specs.KeyNames.{key_clash}
 use Rattle.fault_messages.specs.LinkNotes.{link_notes}
 use Rattle.fault_messages.specs.Places.{word}
 use Rattle.fault_messages.specs.SinkNotes.{sink_notes}
@@ -28,15 +28,17 @@ check_note words ws =
     then trace_note words (word ws 1)
     (codes "this event cannot come here; past the last line, the trace ends too soon")
     else (if bytes_eq (word ws 0) (codes "line")
-    then trace_note words (word ws 1) (codes "this is no event line") else [])
+    then trace_note words (word ws 1)
+    (codes "no event line; grep -E '^(begin|start|finish|tick|end) ' takes those of a run's text")
+    else [])
 
--- of a filter: the key under which the formats clash
+-- of a filter: the key under which the objects clash
 unfoldable pub pair_head : List ℕ → List ℕ → List ℕ
 pair_head a b = codes "pipegraph: " ++ (escaped a ++ (codes " and " ++ (escaped b ++ codes ": ")))
 
 unfoldable pub clash_text : List ℕ → List ℕ
 clash_text key =
-    if bytes_eq key (codes "type") then codes "objects of different types" else clash_said key
+    if bytes_eq key (codes "type") then codes "objects of different types" else key_clash key
 
 abbrev pub filter_note : List (List ℕ) → List (List ℕ) → List ℕ
 filter_note words ws =

@@ -54,13 +54,16 @@ map_rule place =
     else codes "LIST is 1 to 8 numbers from 0 to CHANNELS - 1, parted by single commas"
 
 abbrev pub gain_rule : List ℕ
-gain_rule = codes "a gain is -32767 to 32767, in 1/256"
+gain_rule = codes "a gain is -32767 to 32767, in 1/256: 256 is 0 dB, 128 is 0.5 or -6 dB"
+
+abbrev pub delay_rule : List ℕ
+delay_rule = codes "FRAMES is 0 to 65536: 300 ms at 48000 a second are 14400"
 
 unfoldable pub plain_rule : List ℕ → List ℕ
 plain_rule name =
     if bytes_eq name (codes "gain") then gain_rule
     else (if bytes_eq name (codes "mix2") then gain_rule
-    else (if bytes_eq name (codes "delay") then codes "FRAMES is 0 to 65536"
+    else (if bytes_eq name (codes "delay") then delay_rule
     else (if bytes_eq name (codes "driver") then codes "PRIORITY is 0 to 1000000"
     else (if bytes_eq name (codes "loop") then codes "K is 0 to 15"
     else (if bytes_eq name (codes "buffers") then codes "N is 1 to 8"

@@ -1,7 +1,8 @@
 -- Where a fault is: a word of the command line, or a line of the script. Source: this project's
 -- own.
 use Rattle.std.specs.Prelude.{ℕ, ◌==◌, ◌-◌, ◌&&◌, ◌||◌, not, Bool, if◌then◌else◌, List, [], ◌++◌, take}
-use Rattle.std.specs.Prelude.{codes, decimal, bytes_eq, slice_get, slice_index_or, Option, Some, None}
+use Rattle.std.specs.Prelude.{codes, decimal, bytes_eq, nat_eq, slice_get, slice_index_or, Option, Some, None}
+use Rattle.std.specs.List.{starts_with}
 use Rattle.graph_script.specs.Lexical.{lines_of, words_of}
 use Rattle.pw_top.specs.Check.{trace_place}
 use Rattle.fault_messages.specs.Escaping.{escaped}
@@ -13,6 +14,10 @@ Words = List (List ℕ)
 -- a word by its index; nothing where there is none
 abbrev pub word : List (List ℕ) → ℕ → List ℕ
 word words i = slice_index_or words i []
+
+-- whether bytes begin with these
+abbrev pub begins : List ℕ → List ℕ → Bool
+begins bytes head = starts_with nat_eq bytes head
 
 -- a command that reads a script, and the places that are lines of it
 abbrev pub reads_script : List (List ℕ) → Bool
@@ -49,7 +54,7 @@ file_word words =
 
 abbrev pub file_part : Option (List ℕ) → List ℕ
 file_part None = []
-file_part (Some line) = file_word (words_of line) ++ codes ": "
+file_part (Some line) = escaped (file_word (words_of line)) ++ codes ": "
 
 -- a word in quotes
 unfoldable pub quoted : List ℕ → List ℕ

@@ -68,6 +68,7 @@ pod_behind (P.BadRange key) = key_part key
 pod_behind (P.BadStep key) = key_part key
 pod_behind (P.EmptyChoice key) = key_part key
 pod_behind (P.Clash key) = key_part key
+pod_behind (P.GainForm index) = codes "; 256 is 0 dB"
 pod_behind _ = []
 
 -- WHY A POD IS REFUSED

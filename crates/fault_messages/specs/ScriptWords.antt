@@ -24,7 +24,6 @@ script_text F.AsyncLate = codes "async must stand before the links of its node"
 
 -- the word after the command, and what is before and after it
 abbrev pub said_before : ScriptWhy → List ℕ
-said_before F.NameTaken = codes "the name is taken: "
 said_before F.OfferLate = codes "offers must stand before the links of their node: "
 said_before F.AsyncLate = codes "async must stand before the links of its node: "
 said_before _ = []

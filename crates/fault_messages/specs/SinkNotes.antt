@@ -21,8 +21,8 @@ abbrev pub is_written : List ℕ → List ℕ → List (List ℕ) → Bool
 is_written told file lines = list_any (writes told file) lines
 
 unfoldable pub unused_sink : List ℕ → List ℕ → List ℕ
-unused_sink name file = quoted name ++ (codes " had no format at the end, so "
-    ++ (quoted file ++ codes " is not written"))
+unused_sink name file = quoted name ++ (codes " had no format at the end, so it does not write "
+    ++ quoted file)
 
 unfoldable pub unused_meter : List ℕ → List ℕ
 unused_meter name = quoted name ++ codes " had no format at the end, so it has no peak"

@@ -1,8 +1,9 @@
 //! The first byte of a line that no script may have.
 ghost use Rattle.std.specs.Prelude.{◌≡◌, ◌+◌, ◌≤◌, ◌++◌, length, OnOk};
 ghost use Rattle.graph_script.specs.Lexical.{is_allowed};
-ghost use Rattle.fault_messages.specs.ByteFaults.{byte_place, byte_value, byte_said};
+ghost use Rattle.fault_messages.specs.ByteFaults.{byte_place, byte_value, mark, byte_words, riff_part, value_said, byte_said};
 
+use crate::lines::begins;
 use crate::putting::put_two_numbers;
 use pw_lists::{Memory, Text};
 
@@ -29,17 +30,60 @@ fn byte_value(line: &[u8]) -> u8
     }
 }
 
-/// Its value and its column.
-pub fn put_byte(text: &mut Text, line: &[u8]) -> Result<(), Memory>
-    ensures { OnOk result (text.new ≡ text.old ++ byte_said line.now) }
+// The mark that a text in UTF-8 may begin with.
+fn mark() -> &'static [u8]
+    ensures { result.now ≡ mark }
 {
-    let value = u64::from(byte_value(line));
+    b"\xEF\xBB\xBF"
+}
+
+// What kind of byte it is.
+fn byte_words(b: u8) -> &'static [u8]
+    ensures { result.now ≡ byte_words b }
+{
+    if 128 <= b {
+        b"only ASCII may be in a script, in comments too: byte "
+    } else {
+        b"a byte that no script may have: "
+    }
+}
+
+// What is said of a line that begins as a WAV file does.
+fn riff_part(line: &[u8]) -> &'static [u8]
+    ensures { result.now ≡ riff_part line.now }
+{
+    if begins(line, b"RIFF") {
+        b"; the line begins with RIFF, as a WAV file does"
+    } else {
+        b""
+    }
+}
+
+// Its value and its column.
+#[tactic(auto, unfolding(crate::specs::ByteFaults::value_said))]
+fn put_value(text: &mut Text, line: &[u8]) -> Result<(), Memory>
+    ensures { OnOk result (text.new ≡ text.old ++ value_said line.now) }
+{
+    let value = byte_value(line);
     let column = (byte_place(line) as u64).saturating_add(1);
     put_two_numbers(
         text,
-        b"a byte that no script may have: ",
-        value,
+        byte_words(value),
+        u64::from(value),
         b", in column ",
         column,
+        riff_part(line),
     )
+}
+
+/// Its value and its column, or the mark that the line begins with.
+#[tactic(auto, unfolding(crate::specs::ByteFaults::byte_said))]
+pub fn put_byte(text: &mut Text, line: &[u8]) -> Result<(), Memory>
+    ensures { OnOk result (text.new ≡ text.old ++ byte_said line.now) }
+{
+    if begins(line, mark()) {
+        text.extend(b"the line begins with a UTF-8 mark: save the file without it")
+    } else {
+        put_value(text, line)
+    }
 }

@@ -1,8 +1,10 @@
 //! What is wrong with a file, in words.
-ghost use Rattle.std.specs.Prelude.{◌≡◌, ◌++◌, option_copied, OnOk};
-ghost use Rattle.fault_messages.specs.FileMessages.{wav_said, limit_said, is_of_file, limit_text};
+ghost use Rattle.std.specs.Prelude.{◌≡◌, ◌==◌, ◌++◌, option_copied, OnOk};
+ghost use Rattle.std.specs.List.{list_any};
+ghost use Rattle.fault_messages.specs.FileMessages.{wav_said, absent_text, absent_said, limit_said, is_of_file, limit_text};
 
-use crate::places::put_file;
+use crate::lines::begins;
+use crate::places::{file_word, put_file};
 use pw_lists::{Memory, Text, Which};
 use wav_files::WavFault;
 
@@ -16,12 +18,45 @@ pub fn wav_said(why: WavFault) -> &'static [u8]
         WavFault::BadFmt => b"the fmt chunk is not sound",
         WavFault::NotPcm16 => b"only PCM of 16 bits a sample is read",
         WavFault::NoData => b"there is no data chunk",
-        WavFault::Truncated => b"a chunk passes the end of the file",
+        WavFault::Truncated => {
+            b"a chunk passes the end of the file, as where it was cut or written \
+                to a pipe; sox --ignore-length A B may mend it"
+        }
         WavFault::Uneven => b"the samples are not whole frames",
         WavFault::ChannelsOrRate => {
             b"only 1 to 8 channels at 1 to 384000 frames a second are read"
         }
         WavFault::Memory => b"no memory was left",
+    }
+}
+
+// Whether a quote is in the word.
+fn has_quote(word: &[u8]) -> bool
+    ensures { result ≡ list_any (λ b. b == 0x22) word.now }
+{
+    word.iter().any(|b| *b == b'"')
+}
+
+// That a file of a script is not there.
+fn absent_text(file: &[u8]) -> &'static [u8]
+    ensures { result.now ≡ absent_text file.now }
+{
+    if has_quote(file) {
+        b"there is no such file; quotes are a part of the word"
+    } else if begins(file, b"/") {
+        b"there is no such file"
+    } else {
+        b"there is no such file; file words are paths from the working directory"
+    }
+}
+
+/// That a file is not there, which a line may name.
+pub fn absent_said(line: Option<&[u8]>) -> &'static [u8]
+    ensures { result.now ≡ absent_said (option_copied line.entry) }
+{
+    match line {
+        None => b"there is no such file",
+        Some(line) => absent_text(file_word(line)),
     }
 }
 
@@ -37,8 +72,14 @@ pub fn limit_said(which: Which) -> &'static [u8]
         Which::Nodes => b"more than 63 nodes",
         Which::Epochs => b"more than 1024 lines of cycles and drain",
         Which::Links => b"more than 256 links at a time",
-        Which::Events => b"more than 4194304 events",
-        Which::SinkSamples => b"the sinks would keep more than 134217728 samples",
+        Which::Events => {
+            b"more than 4194304 events; three are counted for each cycle, and two for each \
+                active node in it, the driver among them"
+        }
+        Which::SinkSamples => {
+            b"the sinks would keep more than 134217728 samples, \
+                23 minutes of stereo at 48000 a second"
+        }
         Which::BlockBytes => b"the buffers would have more than 268435456 bytes",
         Which::TraceBytes => b"more than 268435456 bytes",
     }

@@ -1,7 +1,9 @@
 //! Names of the keys of formats.
 ghost use Rattle.std.specs.Prelude.{◌≡◌, ◌++◌, option_copied, OnOk};
-ghost use Rattle.fault_messages.specs.KeyNames.{key_name, key_part, key_word_name, clash_said};
+ghost use Rattle.graph_script.specs.Arguments.{number_of};
+ghost use Rattle.fault_messages.specs.KeyNames.{key_name, name_part, key_part, name_at, key_word_name, clash_said, key_clash};
 
+use crate::putting::{put_between, put_both};
 use graph_script::number_within;
 use pw_lists::{Memory, Text};
 
@@ -29,17 +31,13 @@ fn key_name(key: u32) -> Option<&'static [u8]>
     }
 }
 
-/// The name of a key after its number, in brackets; nothing where it has none.
+/// The name of a key in a format after its number, in brackets; nothing where it has none.
 pub fn put_key(text: &mut Text, key: u32) -> Result<(), Memory>
     ensures { OnOk result (text.new ≡ text.old ++ key_part key) }
 {
     match key_name(key) {
         None => Ok(()),
-        Some(name) => {
-            text.extend(b" (")?;
-            text.extend(name)?;
-            text.extend(b")")
-        }
+        Some(name) => put_between(text, b" (a format's ", name, b")"),
     }
 }
 
@@ -54,6 +52,34 @@ fn key_word_name(word: &[u8]) -> &'static [u8]
             Some(name) => name,
         },
     }
+}
+
+// The name in a format of the key that a word gives, in brackets; nothing where it has none.
+fn put_word_key(text: &mut Text, word: &[u8]) -> Result<(), Memory>
+    ensures { OnOk result (text.new
+        ≡ text.old ++ name_part (name_at (number_of 0 4294967295 word.now))) }
+{
+    match number_within(word, 0, u32::MAX) {
+        None => Ok(()),
+        Some(key) => put_key(text, key),
+    }
+}
+
+// Words, the word of a key, and that name.
+fn put_named_key(text: &mut Text, before: &[u8], word: &[u8]) -> Result<(), Memory>
+    ensures { OnOk result (text.new ≡ text.old ++ (before.now
+        ++ (word.now ++ name_part (name_at (number_of 0 4294967295 word.now))))) }
+{
+    put_both(text, before, word)?;
+    put_word_key(text, word)
+}
+
+/// That two objects have nothing in common under the key of a word.
+#[tactic(auto, unfolding(crate::specs::KeyNames::key_clash))]
+pub fn put_key_clash(text: &mut Text, word: &[u8]) -> Result<(), Memory>
+    ensures { OnOk result (text.new ≡ text.old ++ key_clash word.now) }
+{
+    put_named_key(text, b"no common value under key ", word)
 }
 
 /// That two formats have nothing in common under the key of a word.

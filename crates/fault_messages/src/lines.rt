@@ -1,10 +1,17 @@
-//! The line of a script, and its words.
+//! The line of a script, its words, and how bytes begin.
 ghost use Rattle.std.specs.Prelude.{◌≡◌, [], option_copied, slice_index_or};
 ghost use Rattle.graph_script.specs.Lexical.{words_of};
-ghost use Rattle.fault_messages.specs.Places.{line_at};
+ghost use Rattle.fault_messages.specs.Places.{begins, line_at};
 
 use graph_script::next_word;
 use pw_lists::next_piece;
+
+/// Whether bytes begin with these.
+pub fn begins(bytes: &[u8], head: &[u8]) -> bool
+    ensures { result ≡ begins bytes.now head.now }
+{
+    bytes.starts_with(head)
+}
 
 /// The word of a line, counted from 0; nothing where it has fewer.
 pub fn word_of(line: &[u8], index: u32) -> &[u8]

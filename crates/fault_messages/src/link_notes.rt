@@ -1,7 +1,7 @@
 //! Why links were not made, in words.
 ghost use Rattle.std.specs.Prelude.{◌≡◌, ◌++◌, map, string_bytes, OnOk};
 ghost use Rattle.graph_script.specs.Lexical.{lines_of, words_of};
-ghost use Rattle.fault_messages.specs.LinkNotes.{loop_said, cause_said, nolink_head, nolink_said, link_note, link_part, told_behind, link_notes};
+ghost use Rattle.fault_messages.specs.LinkNotes.{loop_said, map_part, key_said, cause_said, nolink_head, nolink_said, link_note, link_part, told_behind, link_notes};
 
 use crate::key_names::put_clash;
 use crate::lines::word_of;
@@ -21,6 +21,25 @@ fn loop_said(line: &[u8]) -> &'static [u8]
     }
 }
 
+// What makes two channels of one, where the key is that of the channels.
+fn map_part(key: &[u8]) -> &'static [u8]
+    ensures { result.now ≡ map_part key.now }
+{
+    if key == b"65540".as_slice() {
+        b"; map NAME 1 0,0 makes two channels of one"
+    } else {
+        b""
+    }
+}
+
+// A key under which the formats have nothing in common.
+fn put_key_cause(text: &mut Text, key: &[u8]) -> Result<(), Memory>
+    ensures { OnOk result (text.new ≡ text.old ++ key_said key.now) }
+{
+    put_clash(text, key)?;
+    text.extend(map_part(key))
+}
+
 // The cause of a link that is not made.
 #[tactic(auto, unfolding(crate::specs::LinkNotes::cause_said))]
 fn put_cause(text: &mut Text, line: &[u8]) -> Result<(), Memory>
@@ -34,7 +53,7 @@ fn put_cause(text: &mut Text, line: &[u8]) -> Result<(), Memory>
     } else if cause == b"buffers".as_slice() {
         text.extend(b"no number of buffers suits both ports")
     } else {
-        put_clash(text, cause)
+        put_key_cause(text, cause)
     }
 }
 

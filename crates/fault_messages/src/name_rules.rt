@@ -4,7 +4,7 @@ ghost use Rattle.std.specs.List.{list_all};
 ghost use Rattle.graph_script.specs.Lexical.{words_of};
 ghost use Rattle.graph_script.specs.Arguments.{is_letter, is_digit, is_name_byte, is_node_name};
 ghost use Rattle.fault_messages.specs.NameRules.{is_pair, dot_place, end_name, end_port, has_dot, is_end};
-ghost use Rattle.fault_messages.specs.NameRules.{file_place, name_place, name_rule};
+ghost use Rattle.fault_messages.specs.NameRules.{file_place, name_place, has_one_dot, end_rule, name_rule};
 
 use crate::lines::word_of;
 
@@ -23,7 +23,8 @@ fn is_digit(b: u8) -> bool
     matches!(b, b'0'..=b'9')
 }
 
-fn is_name_byte(b: u8) -> bool
+/// Whether the byte may be in a name.
+pub fn is_name_byte(b: u8) -> bool
     ensures { result ≡ is_name_byte b }
 {
     is_letter(b) || is_digit(b) || b == b'_'
@@ -120,12 +121,29 @@ pub fn name_place(line: &[u8]) -> u32
     }
 }
 
+fn has_one_dot(word: &[u8]) -> bool
+    ensures { result ≡ has_one_dot word.now }
+{
+    has_dot(word) && !has_dot(end_port(word))
+}
+
+// What an end has to be: of one with one dot the name is at fault.
+fn end_rule(word: &[u8]) -> &'static [u8]
+    ensures { result.now ≡ end_rule word.now }
+{
+    if has_one_dot(word) {
+        b"the name is a lower-case letter and up to 30 of a to z, 0 to 9 and _"
+    } else {
+        b"an end is NODE.PORT"
+    }
+}
+
 /// What the word at a place has to be.
 pub fn name_rule(line: &[u8], place: u32) -> &'static [u8]
     ensures { result.now ≡ name_rule (words_of line.now) place }
 {
     if is_pair(line) {
-        b"an end is NODE.PORT"
+        end_rule(word_of(line, place))
     } else if place == 1 {
         b"a name is a lower-case letter and up to 30 of a to z, 0 to 9 and _"
     } else {

@@ -1,6 +1,6 @@
 //! The command that is meant by a word that is no command.
 ghost use Rattle.std.specs.Prelude.{◌≡◌, option_copied};
-ghost use Rattle.fault_messages.specs.Nearest.{node_near, graph_near, time_near, nearest, second_choice, meant};
+ghost use Rattle.fault_messages.specs.Nearest.{node_near, graph_near, time_near, nearest, second_choice, other_word, meant};
 
 use crate::nearness::is_near;
 
@@ -89,23 +89,49 @@ fn nearest(k: u32, word: &[u8]) -> Option<&'static [u8]>
     }
 }
 
-// That within two letters, for a word of at least four.
+// That within two letters, for a word of at least six.
 fn second_choice(word: &[u8]) -> Option<&'static [u8]>
     ensures { option_copied result ≡ second_choice word.now }
 {
-    if word.len() >= 4 {
+    if word.len() >= 6 {
         nearest(2, word)
     } else {
         None
     }
 }
 
-/// The command that is meant by a word, if one is near. Takes no memory.
+// That which other programs have this word for.
+#[tactic(auto, unfolding(crate::specs::Nearest::other_word))]
+fn other_word(word: &[u8]) -> Option<&'static [u8]>
+    ensures { option_copied result ≡ other_word word.now }
+{
+    if word == b"connect".as_slice() {
+        Some(b"link".as_slice())
+    } else if word == b"disconnect".as_slice() {
+        Some(b"unlink".as_slice())
+    } else if word == b"input".as_slice() {
+        Some(b"source".as_slice())
+    } else if word == b"output".as_slice() {
+        Some(b"sink".as_slice())
+    } else if word == b"volume".as_slice() {
+        Some(b"gain".as_slice())
+    } else if word == b"mixer".as_slice() {
+        Some(b"mix2".as_slice())
+    } else {
+        None
+    }
+}
+
+/// The command that is meant by a word, if other programs call it so or one is near. Takes no
+/// memory.
 pub fn meant(word: &[u8]) -> Option<&'static [u8]>
     ensures { option_copied result ≡ meant word.now }
 {
-    match nearest(1, word) {
+    match other_word(word) {
         Some(name) => Some(name),
-        None => second_choice(word),
+        None => match nearest(1, word) {
+            Some(name) => Some(name),
+            None => second_choice(word),
+        },
     }
 }

@@ -4,7 +4,7 @@ ghost use Rattle.graph_script.specs.Lexical.{words_of};
 ghost use Rattle.fault_messages.specs.Notes.{run_notes, trace_head, trace_note, check_note, pair_head, clash_text, filter_note};
 ghost use Rattle.fault_messages.specs.Notes.{notes_told, notes};
 
-use crate::key_names::put_clash;
+use crate::key_names::put_key_clash;
 use crate::lines::word_of;
 use crate::link_notes::put_link_notes;
 use crate::places::word_at;
@@ -69,7 +69,12 @@ fn put_check_note(text: &mut Text, words: &[String], line: &[u8]) -> Result<(), 
             b"this event cannot come here; past the last line, the trace ends too soon",
         )
     } else if answer == b"line".as_slice() {
-        put_trace_note(text, words, number, b"this is no event line")
+        put_trace_note(
+            text,
+            words,
+            number,
+            b"no event line; grep -E '^(begin|start|finish|tick|end) ' takes those of a run's text",
+        )
     } else {
         Ok(())
     }
@@ -90,7 +95,7 @@ fn put_clash_text(text: &mut Text, key: &[u8]) -> Result<(), Memory>
     if key == b"type".as_slice() {
         text.extend(b"objects of different types")
     } else {
-        put_clash(text, key)
+        put_key_clash(text, key)
     }
 }
 

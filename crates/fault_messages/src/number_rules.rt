@@ -2,7 +2,7 @@
 ghost use Rattle.std.specs.Prelude.{◌≡◌};
 ghost use Rattle.graph_script.specs.Lexical.{words_of};
 ghost use Rattle.fault_messages.specs.NumberRules.{is_number, is_gain, square_place, mix_place, map_place, is_bare};
-ghost use Rattle.fault_messages.specs.NumberRules.{plain_place, number_place, square_rule, map_rule, gain_rule};
+ghost use Rattle.fault_messages.specs.NumberRules.{plain_place, number_place, square_rule, map_rule, gain_rule, delay_rule};
 ghost use Rattle.fault_messages.specs.NumberRules.{plain_rule, number_rule};
 
 use crate::lines::word_of;
@@ -119,7 +119,13 @@ fn map_rule(place: u32) -> &'static [u8]
 fn gain_rule() -> &'static [u8]
     ensures { result.now ≡ gain_rule }
 {
-    b"a gain is -32767 to 32767, in 1/256"
+    b"a gain is -32767 to 32767, in 1/256: 256 is 0 dB, 128 is 0.5 or -6 dB"
+}
+
+fn delay_rule() -> &'static [u8]
+    ensures { result.now ≡ delay_rule }
+{
+    b"FRAMES is 0 to 65536: 300 ms at 48000 a second are 14400"
 }
 
 #[tactic(auto, unfolding(crate::specs::NumberRules::plain_rule))]
@@ -131,7 +137,7 @@ fn plain_rule(name: &[u8]) -> &'static [u8]
     } else if name == b"mix2".as_slice() {
         gain_rule()
     } else if name == b"delay".as_slice() {
-        b"FRAMES is 0 to 65536"
+        delay_rule()
     } else if name == b"driver".as_slice() {
         b"PRIORITY is 0 to 1000000"
     } else if name == b"loop".as_slice() {

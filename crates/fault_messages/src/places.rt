@@ -63,8 +63,8 @@ pub fn put_place(text: &mut Text, words: &[String], place: u32) -> Result<(), Me
     }
 }
 
-// The file that a line names.
-fn file_word(line: &[u8]) -> &[u8]
+/// The file that a line names.
+pub fn file_word(line: &[u8]) -> &[u8]
     ensures { result.now ≡ file_word (words_of line.now) }
 {
     if word_of(line, 0) == b"offer".as_slice() {
@@ -81,7 +81,7 @@ pub fn put_file(text: &mut Text, line: Option<&[u8]>) -> Result<(), Memory>
     match line {
         None => Ok(()),
         Some(line) => {
-            text.extend(file_word(line))?;
+            put_escaped(text, file_word(line))?;
             text.extend(b": ")
         }
     }

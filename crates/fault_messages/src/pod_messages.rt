@@ -97,6 +97,7 @@ fn put_pod_behind(text: &mut Text, why: PodWhy) -> Result<(), Memory>
         PodWhy::BadStep { key } => put_key(text, key),
         PodWhy::EmptyChoice { key } => put_key(text, key),
         PodWhy::Clash { key } => put_key(text, key),
+        PodWhy::GainForm { .. } => text.extend(b"; 256 is 0 dB"),
         _ => Ok(()),
     }
 }

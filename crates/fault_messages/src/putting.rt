@@ -18,6 +18,28 @@ pub fn put_quoted(text: &mut Text, word: &[u8]) -> Result<(), Memory>
     text.extend(b"\"")
 }
 
+/// Words, and others after them.
+pub fn put_both(text: &mut Text, words: &[u8], others: &[u8]) -> Result<(), Memory>
+    ensures { OnOk result (text.new ≡ text.old ++ (words.now ++ others.now)) }
+{
+    text.extend(words)?;
+    text.extend(others)
+}
+
+/// Words between others.
+pub fn put_between(
+    text: &mut Text,
+    before: &[u8],
+    words: &[u8],
+    behind: &[u8],
+) -> Result<(), Memory>
+    ensures { OnOk result (text.new ≡ text.old ++ (before.now ++ (words.now ++ behind.now))) }
+{
+    text.extend(before)?;
+    text.extend(words)?;
+    text.extend(behind)
+}
+
 /// A word in quotes, with words before it.
 pub fn put_before(text: &mut Text, words: &[u8], word: &[u8]) -> Result<(), Memory>
     ensures { OnOk result (text.new ≡ text.old ++ (words.now ++ quoted word.now)) }
@@ -43,21 +65,23 @@ pub fn put_number(text: &mut Text, before: &[u8], n: u32, behind: &[u8]) -> Resu
     text.extend(behind)
 }
 
-/// Two numbers, with words before each.
+/// Two numbers, with words before each and after them.
 pub fn put_two_numbers(
     text: &mut Text,
     before: &[u8],
     first: u64,
     between: &[u8],
     second: u64,
+    behind: &[u8],
 ) -> Result<(), Memory>
     ensures { OnOk result (text.new ≡ text.old
-        ++ (before.now ++ (decimal first ++ (between.now ++ decimal second)))) }
+        ++ (before.now ++ (decimal first ++ (between.now ++ (decimal second ++ behind.now))))) }
 {
     text.extend(before)?;
     append_decimal(text, first)?;
     text.extend(between)?;
-    append_decimal(text, second)
+    append_decimal(text, second)?;
+    text.extend(behind)
 }
 
 /// Two words in quotes, with words between them.
@@ -89,19 +113,19 @@ pub fn put_two_quoted(
     put_behind(text, second, behind)
 }
 
-/// A word in quotes, with words after it, further words, and the last words.
-pub fn put_quoted_rule(
+/// A word in quotes, with words after it, a word as it is shown, and the last words.
+pub fn put_quoted_shown(
     text: &mut Text,
-    word: &[u8],
+    first: &[u8],
     between: &[u8],
-    rule: &[u8],
+    second: &[u8],
     behind: &[u8],
 ) -> Result<(), Memory>
     ensures { OnOk result (text.new ≡ text.old
-        ++ (quoted word.now ++ (between.now ++ (rule.now ++ behind.now)))) }
+        ++ (quoted first.now ++ (between.now ++ (escaped second.now ++ behind.now)))) }
 {
-    put_behind(text, word, between)?;
-    text.extend(rule)?;
+    put_behind(text, first, between)?;
+    put_escaped(text, second)?;
     text.extend(behind)
 }
 

@@ -1,25 +1,27 @@
 //! Why a line of a script is refused, in words.
-ghost use Rattle.std.specs.Prelude.{◌≡◌, ◌==◌, ◌++◌, option_copied, OnOk};
-ghost use Rattle.std.specs.List.{list_any};
+ghost use Rattle.std.specs.Prelude.{◌≡◌, ◌++◌, option_copied, OnOk};
 ghost use Rattle.graph_script.specs.Lexical.{words_of};
-ghost use Rattle.fault_messages.specs.ScriptMessages.{command_said, form_part, comment_part, form_said};
+ghost use Rattle.fault_messages.specs.ScriptMessages.{command_said};
 ghost use Rattle.fault_messages.specs.ScriptMessages.{rule_said, number_said, name_said};
 ghost use Rattle.fault_messages.specs.Places.{lines_before};
-ghost use Rattle.fault_messages.specs.ScriptMessages.{no_port, unknown_port};
+ghost use Rattle.fault_messages.specs.ScriptMessages.{unknown_port, taken_said};
 ghost use Rattle.fault_messages.specs.ScriptMessages.{named_text, script_said};
-ghost use Rattle.fault_messages.specs.CommandForms.{form_of};
+ghost use Rattle.fault_messages.specs.Makers.{kind_of};
+ghost use Rattle.fault_messages.specs.NameRules.{end_name};
 ghost use Rattle.fault_messages.specs.Nearest.{meant};
+ghost use Rattle.fault_messages.specs.PortEnds.{ends_said};
 ghost use Rattle.fault_messages.specs.ScriptWords.{script_text, said_before, said_behind, of_word};
 
 use crate::byte_faults::put_byte;
-use crate::command_forms::form_of;
 use crate::file_messages::limit_said;
-use crate::lines::word_of;
-use crate::name_rules::{is_pair, name_place, name_rule};
+use crate::form_messages::put_form;
+use crate::lines::{begins, word_of};
+use crate::makers::kind_of;
+use crate::name_rules::{end_name, is_pair, name_place, name_rule};
 use crate::nearest::meant;
 use crate::number_rules::{number_place, number_rule};
-use crate::port_ends::put_ports;
-use crate::putting::{put_behind, put_quoted_pair, put_quoted_rule, put_two_quoted};
+use crate::port_ends::{put_ends, put_port};
+use crate::putting::{put_before, put_behind, put_two_quoted};
 use crate::unknown_names::put_unknown_name;
 use graph_script::ScriptWhy;
 use pw_lists::{Memory, Text};
@@ -46,53 +48,17 @@ fn script_text(why: ScriptWhy) -> &'static [u8]
 }
 
 // That the word is no command, and which one is meant, if one is near.
+#[tactic(auto, unfolding(crate::specs::ScriptMessages::command_said))]
 fn put_command(text: &mut Text, name: &[u8]) -> Result<(), Memory>
     ensures { OnOk result (text.new ≡ text.old ++ command_said name.now) }
 {
+    if begins(name, b"RIFF") {
+        return put_behind(text, name, b" is no command; a WAV file begins with RIFF");
+    }
     match meant(name) {
         None => put_behind(text, name, b" is no command"),
         Some(other) => { put_two_quoted(text, name, b" is no command; did you mean ", other, b"?") }
     }
-}
-
-// The form of a command; nothing where there is no such command.
-fn form_part(name: &[u8]) -> &'static [u8]
-    ensures { result.now ≡ form_part (form_of name.now) }
-{
-    match form_of(name) {
-        None => b"".as_slice(),
-        Some(form) => form,
-    }
-}
-
-// Whether a number sign is in the line.
-fn has_number_sign(line: &[u8]) -> bool
-    ensures { result ≡ list_any (λ b. b == 0x23) line.now }
-{
-    line.iter().any(|b| *b == b'#')
-}
-
-// That comments have lines of their own, where the line may end in one.
-fn comment_part(line: &[u8]) -> &'static [u8]
-    ensures { result.now ≡ comment_part line.now }
-{
-    if has_number_sign(line) {
-        b"; a comment is a line of its own"
-    } else {
-        b""
-    }
-}
-
-fn put_form(text: &mut Text, name: &[u8], line: &[u8]) -> Result<(), Memory>
-    ensures { OnOk result (text.new ≡ text.old ++ form_said name.now line.now) }
-{
-    put_quoted_rule(
-        text,
-        name,
-        b" takes these words: ",
-        form_part(name),
-        comment_part(line),
-    )
 }
 
 // A word and what it has to be.
@@ -121,20 +87,57 @@ fn put_bad_name(text: &mut Text, line: &[u8]) -> Result<(), Memory>
     put_rule(text, word_of(line, place), name_rule(line, place))
 }
 
-fn put_no_port(text: &mut Text, name: &[u8], port: &[u8]) -> Result<(), Memory>
-    ensures { OnOk result (text.new ≡ text.old ++ no_port name.now port.now) }
+// The kind of an end's node, by the lines before the one of this number.
+fn end_kind<'a>(script: &'a [u8], number: u32, end: &[u8]) -> &'a [u8]
+    ensures { result.now ≡ kind_of (end_name end.now) (lines_before script.now number) }
 {
-    put_quoted_pair(text, name, b" has no port ", port)
+    kind_of(script, number, end_name(end))
 }
 
-fn put_unknown_port(text: &mut Text, line: &[u8]) -> Result<(), Memory>
-    ensures { OnOk result (text.new ≡ text.old ++ unknown_port (words_of line.now)) }
+// Of two ends the one with no such port, by the lines before the one of this number.
+fn put_unknown_end(
+    text: &mut Text,
+    from: &[u8],
+    to: &[u8],
+    script: &[u8],
+    number: u32,
+) -> Result<(), Memory>
+    ensures { OnOk result (text.new ≡ text.old
+        ++ ends_said from.now (kind_of (end_name from.now) (lines_before script.now number))
+        to.now (kind_of (end_name to.now) (lines_before script.now number))) }
+{
+    put_ends(
+        text,
+        from,
+        end_kind(script, number, from),
+        to,
+        end_kind(script, number, to),
+    )
+}
+
+// A port that is not there, by the lines before the one of this number.
+#[tactic(auto, unfolding(crate::specs::ScriptMessages::unknown_port))]
+fn put_unknown_port(text: &mut Text, line: &[u8], script: &[u8], number: u32) -> Result<(), Memory>
+    ensures { OnOk result (text.new ≡ text.old
+        ++ unknown_port (words_of line.now) (lines_before script.now number)) }
 {
     let (first, second) = (word_of(line, 1), word_of(line, 2));
     if is_pair(line) {
-        put_ports(text, first, second)
+        put_unknown_end(text, first, second, script, number)
     } else {
-        put_no_port(text, first, second)
+        put_port(text, first, kind_of(script, number, first), second)
+    }
+}
+
+// A name that is taken.
+#[tactic(auto, unfolding(crate::specs::ScriptMessages::taken_said))]
+fn put_taken(text: &mut Text, name: &[u8]) -> Result<(), Memory>
+    ensures { OnOk result (text.new ≡ text.old ++ taken_said name.now) }
+{
+    if name == b"dummy".as_slice() {
+        put_behind(text, name, b" is the built-in driver's name")
+    } else {
+        put_before(text, b"the name is taken: ", name)
     }
 }
 
@@ -143,7 +146,6 @@ fn said_before(why: ScriptWhy) -> &'static [u8]
     ensures { result.now ≡ said_before why }
 {
     match why {
-        ScriptWhy::NameTaken => b"the name is taken: ",
         ScriptWhy::OfferLate => b"offers must stand before the links of their node: ",
         ScriptWhy::AsyncLate => b"async must stand before the links of its node: ",
         _ => b"",
@@ -186,7 +188,8 @@ fn put_named(
         ScriptWhy::NameForm => put_bad_name(text, line),
         ScriptWhy::QuantumLate | ScriptWhy::TooMany(_) => text.extend(script_text(why)),
         ScriptWhy::NameUnknown => put_unknown_name(text, line, script, number),
-        ScriptWhy::PortUnknown => put_unknown_port(text, line),
+        ScriptWhy::NameTaken => put_taken(text, word_of(line, 1)),
+        ScriptWhy::PortUnknown => put_unknown_port(text, line, script, number),
         _ => put_word(text, why, line),
     }
 }

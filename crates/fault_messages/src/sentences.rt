@@ -2,14 +2,15 @@
 ghost use Rattle.std.specs.Prelude.{◌≡◌, ◌++◌, [], codes, map, string_bytes, option_copied, OnOk, IfOk};
 ghost use Rattle.fault_messages.specs.Places.{place_text, file_part};
 ghost use Rattle.fault_messages.specs.Message.{is_help_word, asks_help};
-ghost use Rattle.fault_messages.specs.Message.{synopsis, usage_text, at_place, sentence, before, after, message_of, words_message};
+ghost use Rattle.fault_messages.specs.Message.{synopsis, at_place, sentence, before, after, message_of, words_message};
 
-use crate::file_messages::{put_limit, wav_said};
+use crate::file_messages::{absent_said, put_limit, wav_said};
 use crate::help::help;
 use crate::places::{put_file, put_place, word_at};
 use crate::pod_messages::put_pod;
-use crate::putting::{put_before, put_number};
+use crate::putting::put_number;
 use crate::script_messages::put_script;
+use crate::usages::put_usage;
 use pw_lists::{Items, Memory, Text};
 use pw_top::Status;
 use std::alloc::Global;
@@ -25,17 +26,6 @@ fn synopsis() -> &'static [u8]
        \x20      pipegraph check SCRIPT TRACE\n\
        \x20      pipegraph soak NUMBER\n\
        \x20      pipegraph groups SCRIPT\n"
-}
-
-// A word at fault, or one that is missing.
-fn put_usage(text: &mut Text, words: &[String], word: u32) -> Result<(), Memory>
-    ensures { OnOk result (text.new ≡ text.old ++ usage_text (map string_bytes words.now) word) }
-{
-    if (word as usize) < words.len() {
-        put_before(text, b"this word is wrong here: ", word_at(words, word))
-    } else {
-        text.extend(b"a word is missing")
-    }
 }
 
 // A file of a place, and what is wrong with it.
@@ -88,9 +78,7 @@ fn put_sentence(
             put_file_fault(text, words, place, line, b"")?;
             put_pod(text, why)
         }
-        Status::Absent { place } => {
-            put_file_fault(text, words, place, line, b"there is no such file")
-        }
+        Status::Absent { place } => put_file_fault(text, words, place, line, absent_said(line)),
         Status::ReadFault { place } => {
             put_file_fault(text, words, place, line, b"the file cannot be read")
         }

@@ -7,7 +7,7 @@ ghost use Rattle.fault_messages.specs.SinkNotes.{is_sink, is_meter, writes, is_w
 ghost use Rattle.fault_messages.specs.SinkNotes.{sink_note, meter_note, sink_part, sink_notes};
 
 use crate::lines::word_of;
-use crate::putting::{put_behind, put_note_head, put_two_quoted};
+use crate::putting::{put_behind, put_note_head, put_quoted_pair};
 use crate::told_lines::is_unused;
 use pw_lists::{Memory, Text, next_piece};
 
@@ -61,12 +61,11 @@ fn is_written(told: &[u8], file: &[u8], later: Option<&[u8]>) -> bool
 fn put_unused_sink(text: &mut Text, name: &[u8], file: &[u8]) -> Result<(), Memory>
     ensures { OnOk result (text.new ≡ text.old ++ unused_sink name.now file.now) }
 {
-    put_two_quoted(
+    put_quoted_pair(
         text,
         name,
-        b" had no format at the end, so ",
+        b" had no format at the end, so it does not write ",
         file,
-        b" is not written",
     )
 }
 

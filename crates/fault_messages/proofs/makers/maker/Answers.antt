@@ -1,8 +1,8 @@
 use Rattle.std.proofs.Common.{◌≡◌, ◌∙◌, false, sym, arith}
 use Rattle.graph_script.specs.Lexical.{lines_of}
-use Rattle.fault_messages.specs.UnknownNames.{makes}
+use Rattle.fault_messages.specs.Makers.{makes}
 use Rattle.fault_messages.proofs.NoteLemmas.{skip_line}
-use Rattle.fault_messages.proofs.unknown_names.is_made_before.Goals as goal
+use Rattle.fault_messages.proofs.makers.maker.Goals as goal
 
 pub loop-preserved : goal.loop-preserved
 loop-preserved c =

@@ -1,0 +1,732 @@
+//! What people get wrong, as rows: a command line, its files, and standard error whole.
+
+use pw_lists::{Items, Memory};
+use pw_outside::MemSink;
+use pw_program::run_program;
+use row_files::{FileRow, Held, S_WAV, SURE, files_of, words_of};
+use std::alloc::Global;
+use std::sync::Wait;
+use std::thread::Threads;
+
+/// A line of words over s.graph and other files, the number that it ends with, its text, and its
+/// sentence without the program's name.
+#[derive(Clone, Copy, Drop)]
+struct Asked {
+    line: &'static str,
+    script: &'static [u8],
+    files: &'static [FileRow<'static>],
+    code: u8,
+    out: &'static [u8],
+    said: &'static [u8],
+}
+
+/// A run of a script with a source.
+const RUN: Asked = Asked {
+    line: "run s.graph",
+    script: b"",
+    files: &[S_WAV],
+    code: 2,
+    out: b"",
+    said: b"",
+};
+
+/// A WAV file as sox writes it to a pipe: its data has the size 0x7ffff000.
+const PIPED: Held<'static> = Held::Bytes(
+    b"RIFF\x24\xf0\xff\x7fWAVEfmt \x10\0\0\0\x01\0\x01\0\x80\xbb\0\0\0\x77\x01\0\x02\0\x10\0\
+        data\0\xf0\xff\x7f\x07\0\x08\0",
+);
+
+/// Bytes that no script may have.
+const BYTES: &'static [Asked] = &[
+    Asked {
+        script: b"\xef\xbb\xbfquantum 4\n",
+        out: b"script 1 1\n",
+        said: b"s.graph:1: the line begins with a UTF-8 mark: save the file without it",
+        ..RUN
+    },
+    Asked {
+        script: b"gain a 1\n\xef\xbb\xbfgain b 1",
+        out: b"script 2 1\n",
+        said: b"s.graph:2: the line begins with a UTF-8 mark: save the file without it",
+        ..RUN
+    },
+    Asked {
+        script: b"# \xc3\x9cbung\n",
+        out: b"script 1 1\n",
+        said: b"s.graph:1: only ASCII may be in a script, in comments too: byte 195, in column 3",
+        ..RUN
+    },
+    Asked {
+        script: b"# \xef\xbb\xbf\n",
+        out: b"script 1 1\n",
+        said: b"s.graph:1: only ASCII may be in a script, in comments too: byte 239, in column 3",
+        ..RUN
+    },
+    Asked {
+        script: b"RIFF\xa4\x01\0\0WAVEfmt ",
+        out: b"script 1 1\n",
+        said: b"s.graph:1: only ASCII may be in a script, in comments too: byte 164, in column 5; \
+            the line begins with RIFF, as a WAV file does",
+        ..RUN
+    },
+    Asked {
+        script: b"RIFF$\x01\0\0WAVEfmt ",
+        out: b"script 1 1\n",
+        said: b"s.graph:1: a byte that no script may have: 1, in column 6; \
+            the line begins with RIFF, as a WAV file does",
+        ..RUN
+    },
+    Asked {
+        script: b"gain a 1\x7f\n",
+        out: b"script 1 1\n",
+        said: b"s.graph:1: a byte that no script may have: 127, in column 9",
+        ..RUN
+    },
+    Asked {
+        script: b"RIFF\nIBM",
+        out: b"script 1 2\n",
+        said: b"s.graph:1: \"RIFF\" is no command; a WAV file begins with RIFF",
+        ..RUN
+    },
+];
+
+/// Words that are no command of a script.
+const COMMANDS: &'static [Asked] = &[
+    Asked {
+        script: b"connect a.out b.in\n",
+        out: b"script 1 2\n",
+        said: b"s.graph:1: \"connect\" is no command; did you mean \"link\"?",
+        ..RUN
+    },
+    Asked {
+        script: b"input v v.wav\n",
+        out: b"script 1 2\n",
+        said: b"s.graph:1: \"input\" is no command; did you mean \"source\"?",
+        ..RUN
+    },
+    Asked {
+        script: b"volume g 128\n",
+        out: b"script 1 2\n",
+        said: b"s.graph:1: \"volume\" is no command; did you mean \"gain\"?",
+        ..RUN
+    },
+    Asked {
+        script: b"play v.wav\n",
+        out: b"script 1 2\n",
+        said: b"s.graph:1: \"play\" is no command",
+        ..RUN
+    },
+    Asked {
+        script: b"lnik a.out b.in\n",
+        out: b"script 1 2\n",
+        said: b"s.graph:1: \"lnik\" is no command; did you mean \"link\"?",
+        ..RUN
+    },
+    Asked {
+        script: b"qantmu 4\n",
+        out: b"script 1 2\n",
+        said: b"s.graph:1: \"qantmu\" is no command",
+        ..RUN
+    },
+    Asked {
+        script: b"squares\\ q\n",
+        out: b"script 1 2\n",
+        said: b"s.graph:1: \"squares\\\\\" is no command; did you mean \"square\"?",
+        ..RUN
+    },
+];
+
+/// Lines with another number of words, numbers, names and files.
+const ARGUMENTS: &'static [Asked] = &[
+    Asked {
+        script: b"drain 5\n",
+        out: b"script 1 3\n",
+        said: b"s.graph:1: \"drain\" takes no words",
+        ..RUN
+    },
+    Asked {
+        script: b"source v \"my voice.wav\"\n",
+        out: b"script 1 3\n",
+        said: b"s.graph:1: \"source\" takes these words: source NAME FILE; \
+            a file word has no blanks, and quotes mean nothing",
+        ..RUN
+    },
+    Asked {
+        script: b"source v\n",
+        out: b"script 1 3\n",
+        said: b"s.graph:1: \"source\" takes these words: source NAME FILE",
+        ..RUN
+    },
+    Asked {
+        script: b"sink o o.wav # loud\n",
+        out: b"script 1 3\n",
+        said: b"s.graph:1: \"sink\" takes these words: sink NAME FILE; \
+            a comment is a line of its own",
+        ..RUN
+    },
+    Asked {
+        script: b"gain g 1\noffer g in my format.pod\n",
+        out: b"script 2 3\n",
+        said: b"s.graph:2: \"offer\" takes these words: offer NAME PORT FILE; \
+            a file word has no blanks, and quotes mean nothing",
+        ..RUN
+    },
+    Asked {
+        script: b"map p 2 0, 1\n",
+        out: b"script 1 3\n",
+        said: b"s.graph:1: \"map\" takes these words: map NAME CHANNELS LIST; LIST has no blanks",
+        ..RUN
+    },
+    Asked {
+        script: b"gain g -6dB\n",
+        out: b"script 1 4\n",
+        said: b"s.graph:1: \"-6dB\": a gain is -32767 to 32767, in 1/256: \
+            256 is 0 dB, 128 is 0.5 or -6 dB",
+        ..RUN
+    },
+    Asked {
+        script: b"mix2 m 256 0.5\n",
+        out: b"script 1 4\n",
+        said: b"s.graph:1: \"0.5\": a gain is -32767 to 32767, in 1/256: \
+            256 is 0 dB, 128 is 0.5 or -6 dB",
+        ..RUN
+    },
+    Asked {
+        script: b"delay d 300ms\n",
+        out: b"script 1 4\n",
+        said: b"s.graph:1: \"300ms\": FRAMES is 0 to 65536: 300 ms at 48000 a second are 14400",
+        ..RUN
+    },
+    Asked {
+        script: b"source dummy v.wav\n",
+        out: b"script 1 6\n",
+        said: b"s.graph:1: \"dummy\" is the built-in driver's name",
+        ..RUN
+    },
+    Asked {
+        script: b"gain g 1\nsource g v.wav\n",
+        out: b"script 2 6\n",
+        said: b"s.graph:2: the name is taken: \"g\"",
+        ..RUN
+    },
+    Asked {
+        script: b"source v no.wav\n",
+        code: 5,
+        out: b"absent 1\n",
+        said: b"s.graph:1: no.wav: there is no such file; \
+            file words are paths from the working directory",
+        ..RUN
+    },
+    Asked {
+        script: b"source v \"s.wav\"\n",
+        code: 5,
+        out: b"absent 1\n",
+        said: b"s.graph:1: \"s.wav\": there is no such file; quotes are a part of the word",
+        ..RUN
+    },
+    Asked {
+        script: b"source v /no.wav\n",
+        code: 5,
+        out: b"absent 1\n",
+        said: b"s.graph:1: /no.wav: there is no such file",
+        ..RUN
+    },
+    Asked {
+        script: b"source v a\\b.wav\n",
+        code: 5,
+        out: b"absent 1\n",
+        said: b"s.graph:1: a\\\\b.wav: there is no such file; \
+            file words are paths from the working directory",
+        ..RUN
+    },
+    Asked {
+        script: b"source v p.wav\n",
+        files: &[("p.wav", PIPED)],
+        code: 3,
+        out: b"wav 1 6\n",
+        said: b"s.graph:1: p.wav: a chunk passes the end of the file, as where it was cut or \
+            written to a pipe; sox --ignore-length A B may mend it",
+        ..RUN
+    },
+];
+
+/// Ends and ports.
+const PORTS: &'static [Asked] = &[
+    Asked {
+        script: b"link Vox.out m.in\n",
+        out: b"script 1 5\n",
+        said: b"s.graph:1: \"Vox.out\": the name is a lower-case letter and up to 30 of a to z, \
+            0 to 9 and _",
+        ..RUN
+    },
+    Asked {
+        script: b"gain a 1\nlink a.out m:in\n",
+        out: b"script 2 5\n",
+        said: b"s.graph:2: \"m:in\": an end is NODE.PORT",
+        ..RUN
+    },
+    Asked {
+        script: b"# mix2 a 1 1\ngain a 1\nmix2 m 1 1\nlink a.out m.in\n",
+        out: b"script 4 8\n",
+        said: b"s.graph:4: \"m.in\" is no input: \"m\" is a mix2, whose inputs are a and b",
+        ..RUN
+    },
+    Asked {
+        script: b"gain a 1\nlink a.out a.out\n",
+        out: b"script 2 8\n",
+        said: b"s.graph:2: \"a.out\" is no input: \"a\" is a gain, whose input is in",
+        ..RUN
+    },
+    Asked {
+        script: b"source s s.wav\nsquare q 48000 1 2 5\nlink s.out q.in\n",
+        out: b"script 3 8\n",
+        said: b"s.graph:3: \"q.in\" is no input: \"q\" is a square, which has none",
+        ..RUN
+    },
+    Asked {
+        script: b"sink o o.wav\nsource s s.wav\nlink o.in s.out\n",
+        out: b"script 3 8\n",
+        said: b"s.graph:3: \"o.in\" is no output: \"o\" is a sink, which has none; \
+            a link goes from an output to an input",
+        ..RUN
+    },
+    Asked {
+        script: b"split t\nmeter m\nunlink t.out m.in\n",
+        out: b"script 3 8\n",
+        said: b"s.graph:3: \"t.out\" is no output: \"t\" is a split, \
+            whose outputs are left and right",
+        ..RUN
+    },
+    Asked {
+        script: b"delay d 5\nlink d.a d.in\n",
+        out: b"script 2 8\n",
+        said: b"s.graph:2: \"d.a\" is no output: \"d\" is a delay, whose output is out; \
+            a link goes from an output to an input",
+        ..RUN
+    },
+    Asked {
+        script: b"gain link 1\r\n\tgain  gain\t1\r\nlink gain.b gain.in\r\n",
+        out: b"script 3 8\n",
+        said: b"s.graph:3: \"gain.b\" is no output: \"gain\" is a gain, whose output is out; \
+            a link goes from an output to an input",
+        ..RUN
+    },
+    Asked {
+        script: b"sink o o.wav\nbuffers o out 2\n",
+        out: b"script 2 8\n",
+        said: b"s.graph:2: \"o\" has no port \"out\": it is a sink, whose port is in",
+        ..RUN
+    },
+    Asked {
+        script: b"mix2 m 1 1\noffer m in f.pod\n",
+        out: b"script 2 8\n",
+        said: b"s.graph:2: \"m\" has no port \"in\": it is a mix2, whose ports are a, b and out",
+        ..RUN
+    },
+    Asked {
+        script: b"split t\nbuffers t out 2\n",
+        out: b"script 2 8\n",
+        said: b"s.graph:2: \"t\" has no port \"out\": it is a split, whose ports are in, \
+            left and right",
+        ..RUN
+    },
+    Asked {
+        script: b"source s s.wav\nbuffers s in 2\n",
+        out: b"script 2 8\n",
+        said: b"s.graph:2: \"s\" has no port \"in\": it is a source, whose port is out",
+        ..RUN
+    },
+    Asked {
+        script: b"map p 1 0,0\nbuffers p left 2\n",
+        out: b"script 2 8\n",
+        said: b"s.graph:2: \"p\" has no port \"left\": it is a map, whose ports are in and out",
+        ..RUN
+    },
+];
+
+/// A format whose channels are 1, and objects of type 0x40002 with keys that formats have.
+const CHANNELS: Held<'static> = Held::Words(&[32, 15, 262147, 3, 65540, 0, 4, 4, 1, 0]);
+
+const PROPS: Held<'static> = Held::Words(&[32, 15, 262146, 2, 65539, 0, 4, 4, 1, 0]);
+
+const OTHERS: Held<'static> = Held::Words(&[32, 15, 262146, 2, 65539, 0, 4, 4, 2, 0]);
+
+const TWICE: Held<'static> = Held::Words(&[56, 15, 262146, 2, 2, 0, 4, 4, 1, 0, 2, 0, 4, 4, 2, 0]);
+
+/// Notes on links and formats, where all was done, and PODs that are refused.
+const NOTES: &'static [Asked] = &[
+    Asked {
+        script: b"square a 48000 1 2 5\nsquare c 48000 2 2 5\nmeter m\nlink c.out m.in\n\
+            link a.out m.in\n",
+        code: 0,
+        out: b"link c.out m.in 48000 2 2\nnolink a.out m.in 65540\npeak m 0\n",
+        said: b"s.graph:5: \"a.out\" to \"m.in\" is no link: no common channels (key 65540); \
+            map NAME 1 0,0 makes two channels of one",
+        ..RUN
+    },
+    Asked {
+        line: "filter a.pod b.pod o.pod",
+        files: &[("a.pod", PROPS), ("b.pod", OTHERS)],
+        code: 0,
+        out: b"clash 65539\n",
+        said: b"a.pod and b.pod: no common value under key 65539 (a format's rate)",
+        ..RUN
+    },
+    Asked {
+        line: "filter a.pod b.pod o.pod",
+        files: &[("a.pod", PROPS), ("b.pod", CHANNELS)],
+        code: 0,
+        out: b"clash type\n",
+        said: b"a.pod and b.pod: objects of different types",
+        ..RUN
+    },
+    Asked {
+        line: "filter a.pod a.pod o.pod",
+        files: &[("a.pod", TWICE)],
+        code: 4,
+        out: b"pod 1 12 2\n",
+        said: b"a.pod: a property stands twice, under key 2 (a format's media subtype)",
+        ..RUN
+    },
+    Asked {
+        line: "check s.graph t.txt",
+        script: b"cycles 1\n",
+        files: &[("t.txt", Held::Bytes(b"wrote o 4\n"))],
+        code: 0,
+        out: b"line 1\n",
+        said: b"t.txt:1: no event line; grep -E '^(begin|start|finish|tick|end) ' \
+            takes those of a run's text",
+        ..RUN
+    },
+];
+
+/// Files whose names are odd.
+const NAMES: &'static [Asked] = &[
+    Asked {
+        line: "dump a\\x41",
+        code: 5,
+        out: b"absent 1\n",
+        said: b"a\\\\x41: there is no such file",
+        ..RUN
+    },
+    Asked {
+        line: "dump a\u{80}b\u{9f}\u{a1}",
+        code: 5,
+        out: b"absent 1\n",
+        said: b"a\\xc2\\x80b\\xc2\\x9f\xc2\xa1: there is no such file",
+        ..RUN
+    },
+    Asked {
+        line: "dump \u{410}\u{7f}\u{1}\u{90}\u{10ffff}",
+        code: 5,
+        out: b"absent 1\n",
+        said: b"\xd0\x90\\x7f\\x01\\xc2\\x90\xf4\x8f\xbf\xbf: there is no such file",
+        ..RUN
+    },
+    Asked {
+        line: "filter same same same",
+        code: 5,
+        out: b"absent 1\n",
+        said: b"same: there is no such file",
+        ..RUN
+    },
+];
+
+// Standard error with a sentence, and what follows it; nothing without one.
+fn wanted(alloc: Global, said: &[u8], after: &[u8]) -> Result<Items<u8>, Memory> {
+    let mut text = Items::new(alloc);
+    for part in [b"pipegraph: ".as_slice(), said, b"\n".as_slice(), after] {
+        text.extend(part)?;
+    }
+    Ok(text)
+}
+
+// Whether words over a script and the files of a row end as it says, with this on standard error.
+fn ends_so<R: Threads + Wait + Sync + AllocGlobal>(
+    rt: &R,
+    words: &[String],
+    script: &[u8],
+    asked: Asked,
+    errors: &[u8],
+) -> Result<bool, Memory> {
+    let alloc = rt.alloc();
+    let files = files_of(alloc, script, asked.files, SURE)?;
+    let out = MemSink::new(alloc)?;
+    let mut errs = MemSink::new(alloc)?;
+    let ended = run_program(rt, alloc, words, files, out, &mut errs);
+    Ok(
+        ended.code == asked.code
+            && ended.out.bytes().as_slice() == asked.out
+            && errs.bytes().as_slice() == errors,
+    )
+}
+
+// Whether a row is as wanted, with this after its sentence.
+fn is_so<R: Threads + Wait + Sync + AllocGlobal>(
+    rt: &R,
+    asked: Asked,
+    after: &[u8],
+) -> Result<bool, Memory> {
+    let words = words_of(rt.alloc(), asked.line)?;
+    let errors = wanted(rt.alloc(), asked.said, after)?;
+    ends_so(rt, words.as_slice(), asked.script, asked, errors.as_slice())
+}
+
+// The first row that is not as wanted.
+fn first_unlike<R: Threads + Wait + Sync + AllocGlobal>(
+    rt: &R,
+    rows: &[Asked],
+    after: &[u8],
+) -> Option<usize> {
+    for (place, asked) in rows.iter().enumerate() {
+        match is_so(rt, *asked, after) {
+            Ok(true) => {}
+            _ => return Some(place),
+        }
+    }
+    None
+}
+
+#[test]
+fn wrong_lines_of_scripts_have_their_sentences(rt: HostRuntime) {
+    assert_eq!(rt; first_unlike(&rt, BYTES, b""), None);
+    assert_eq!(rt; first_unlike(&rt, COMMANDS, b""), None);
+    assert_eq!(rt; first_unlike(&rt, ARGUMENTS, b""), None);
+    assert_eq!(rt; first_unlike(&rt, PORTS, b""), None);
+}
+
+#[test]
+fn notes_and_odd_names_are_shown(rt: HostRuntime) {
+    assert_eq!(rt; first_unlike(&rt, NOTES, b""), None);
+    assert_eq!(rt; first_unlike(&rt, NAMES, b""), None);
+}
+
+/// Words that are no command line.
+const USAGE: Asked = Asked {
+    code: 1,
+    files: &[],
+    ..RUN
+};
+
+/// Words that are no command line, with the word at fault.
+const USAGES: &'static [Asked] = &[
+    Asked {
+        line: "runn s.graph",
+        out: b"usage 0\n",
+        said: b"\"runn\" is no command; did you mean \"run\"?",
+        ..USAGE
+    },
+    Asked {
+        line: "s.graph",
+        out: b"usage 0\n",
+        said: b"\"s.graph\" is no command; did you mean: pipegraph run s.graph?",
+        ..USAGE
+    },
+    Asked {
+        line: "-takes/v.graph",
+        out: b"usage 0\n",
+        said: b"\"-takes/v.graph\" is no command",
+        ..USAGE
+    },
+    Asked {
+        line: "a;b.graph",
+        out: b"usage 0\n",
+        said: b"\"a;b.graph\" is no command",
+        ..USAGE
+    },
+    Asked {
+        line: "play s.graph",
+        out: b"usage 0\n",
+        said: b"\"play\" is no command",
+        ..USAGE
+    },
+    Asked {
+        line: "run",
+        out: b"usage 1\n",
+        said: b"a word is missing after \"run\"",
+        ..USAGE
+    },
+    Asked {
+        line: "run --loops 2 s.graph",
+        out: b"usage 1\n",
+        said: b"\"--loops\" is no SCRIPT; SCRIPT comes before the options",
+        ..USAGE
+    },
+    Asked {
+        line: "run s.graph --loop 2",
+        out: b"usage 2\n",
+        said: b"\"--loop\" is no option; did you mean \"--loops\"?",
+        ..USAGE
+    },
+    Asked {
+        line: "run s.graph --loops=2",
+        out: b"usage 2\n",
+        said: b"\"--loops=2\": the value is a word of its own, as in --loops 2",
+        ..USAGE
+    },
+    Asked {
+        line: "run s.graph --loops 17",
+        out: b"usage 3\n",
+        said: b"\"17\": N of --loops is 0 to 16, without a leading zero",
+        ..USAGE
+    },
+    Asked {
+        line: "run s.graph --loops --loops",
+        out: b"usage 3\n",
+        said: b"\"--loops\": N of --loops is 0 to 16, without a leading zero",
+        ..USAGE
+    },
+    Asked {
+        line: "run s.graph --ticks 0",
+        out: b"usage 3\n",
+        said: b"\"0\": N of --ticks is 1 to 1000000, without a leading zero",
+        ..USAGE
+    },
+    Asked {
+        line: "run s.graph --trace --ticks",
+        out: b"usage 4\n",
+        said: b"a word is missing after \"--ticks\"",
+        ..USAGE
+    },
+    Asked {
+        line: "run s.graph --loops 2 --loops 2",
+        out: b"usage 4\n",
+        said: b"\"--loops\" is there already",
+        ..USAGE
+    },
+    Asked {
+        line: "run s.graph --trace --trace",
+        out: b"usage 3\n",
+        said: b"\"--trace\" is there already",
+        ..USAGE
+    },
+    Asked {
+        line: "run s.graph t.graph",
+        out: b"usage 2\n",
+        said: b"\"t.graph\" is no option; these are --loops N, --ticks N, --trace and --steal",
+        ..USAGE
+    },
+    Asked {
+        line: "filter a -b c",
+        out: b"usage 2\n",
+        said: b"\"-b\": a file word has 1 to 255 bytes, the first of them no -",
+        ..USAGE
+    },
+    Asked {
+        line: "check a b c",
+        out: b"usage 3\n",
+        said: b"\"c\" is one word too many",
+        ..USAGE
+    },
+    Asked {
+        line: "soak 07",
+        out: b"usage 1\n",
+        said: b"\"07\": NUMBER is 0 to 4294967295, without a leading zero",
+        ..USAGE
+    },
+    Asked {
+        line: "groups s.graph --trace",
+        out: b"usage 2\n",
+        said: b"\"--trace\" is one word too many",
+        ..USAGE
+    },
+];
+
+/// The words of all commands.
+const SYNOPSIS: &'static [u8] = b"usage: pipegraph run SCRIPT [--loops N] [--ticks N] \
+    [--trace] [--steal]\n\
+    \x20      pipegraph dump FILE\n\
+    \x20      pipegraph filter A B OUT\n\
+    \x20      pipegraph automate IN SEQ OUT\n\
+    \x20      pipegraph check SCRIPT TRACE\n\
+    \x20      pipegraph soak NUMBER\n\
+    \x20      pipegraph groups SCRIPT\n";
+
+#[test]
+fn wrong_command_lines_have_their_sentences(rt: HostRuntime) {
+    assert_eq!(rt; first_unlike(&rt, USAGES, SYNOPSIS), None);
+}
+
+// A word of one letter, then another as often as said.
+fn long_word(alloc: Global, first: &str, letter: &str, count: u32) -> Result<String, Memory> {
+    let mut word = String::from_str(alloc, first)?;
+    for _ in 0..count {
+        word.push_str(letter)?;
+    }
+    Ok(word)
+}
+
+// Whether `pipegraph` with only this long word says this of its beginning.
+fn is_cut<R: Threads + Wait + Sync + AllocGlobal>(
+    rt: &R,
+    word: String,
+    shown: &str,
+    after: &str,
+) -> Result<bool, Memory> {
+    let alloc = rt.alloc();
+    let mut said = Items::from_slice(alloc, b"\"".as_slice())?;
+    said.extend(shown.as_bytes())?;
+    said.extend(after.as_bytes())?;
+    let errors = wanted(alloc, said.as_slice(), SYNOPSIS)?;
+    let mut words = Items::new(alloc);
+    words.push(word)?;
+    let asked = Asked {
+        out: b"usage 0\n",
+        ..USAGE
+    };
+    ends_so(rt, words.as_slice(), b"", asked, errors.as_slice())
+}
+
+// Whether `pipegraph run s.graph` says this of the beginning of a long name in a script.
+fn is_cut_in_script<R: Threads + Wait + Sync + AllocGlobal>(
+    rt: &R,
+    name: &str,
+    shown: &str,
+) -> Result<bool, Memory> {
+    let alloc = rt.alloc();
+    let mut script = Items::from_slice(alloc, b"gain a 1\non ".as_slice())?;
+    script.extend(name.as_bytes())?;
+    let mut said = Items::from_slice(alloc, b"s.graph:2: \"".as_slice())?;
+    said.extend(shown.as_bytes())?;
+    said.extend(
+        b"..\": a name is a lower-case letter and up to 30 of a to z, 0 to 9 and _".as_slice(),
+    )?;
+    let errors = wanted(alloc, said.as_slice(), b"")?;
+    let words = words_of(alloc, "run s.graph")?;
+    let asked = Asked {
+        out: b"script 2 5\n",
+        ..RUN
+    };
+    ends_so(
+        rt,
+        words.as_slice(),
+        script.as_slice(),
+        asked,
+        errors.as_slice(),
+    )
+}
+
+// Whether long words are cut between two characters.
+fn are_cut<R: Threads + Wait + Sync + AllocGlobal>(rt: &R) -> Result<bool, Memory> {
+    let alloc = rt.alloc();
+    let cut = "..\" is no command";
+    let whole = long_word(alloc, "", "z", 200)?;
+    let long = long_word(alloc, "", "z", 100000)?;
+    let two = long_word(alloc, "a", "\u{e9}", 200)?;
+    let four = long_word(alloc, "a", "\u{1f3b5}", 100)?;
+    let two_shown = long_word(alloc, "a", "\u{e9}", 99)?;
+    let four_shown = long_word(alloc, "a", "\u{1f3b5}", 49)?;
+    let shown = whole.clone()?;
+    Ok(
+        is_cut_in_script(rt, long.as_str(), shown.as_str())?
+            && is_cut(rt, whole, shown.as_str(), "\" is no command")?
+            && is_cut(rt, long, shown.as_str(), cut)?
+            && is_cut(rt, two, two_shown.as_str(), cut)?
+            && is_cut(rt, four, four_shown.as_str(), cut)?,
+    )
+}
+
+#[test]
+fn long_words_are_cut(rt: HostRuntime) {
+    assert!(rt; matches!(are_cut(&rt), Ok(true)));
+}

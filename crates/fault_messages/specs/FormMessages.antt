@@ -1,0 +1,47 @@
+-- A line with another number of words than its command takes, in words. Source: the grammar and the
+-- sentences are this project's own.
+use Rattle.std.specs.Prelude.{ℕ, ◌==◌, ◌||◌, ◌&&◌, Bool, List, [], ◌++◌, codes, length, nat_lt, bytes_eq, Option, Some, None, if◌then◌else◌}
+use Rattle.std.specs.List.{list_any}
+use Rattle.graph_script.specs.Lexical.{words_of}
+use Rattle.fault_messages.specs.CommandForms.{form_of}
+use Rattle.fault_messages.specs.Places.{word, quoted}
+
+-- the form of a command
+abbrev pub form_part : Option (List ℕ) → List ℕ
+form_part None = []
+form_part (Some form) = form
+
+unfoldable pub takes_form : List ℕ → List ℕ
+takes_form form = codes " takes these words: " ++ form
+
+unfoldable pub takes_part : List ℕ → List ℕ
+takes_part name =
+    if bytes_eq name (codes "drain") then codes " takes no words"
+    else takes_form (form_part (form_of name))
+
+-- a command whose second argument is a file
+abbrev pub has_file : List ℕ → Bool
+has_file name = bytes_eq name (codes "source") || bytes_eq name (codes "sink")
+
+-- whether a line has a word at this place
+abbrev pub has_word : List (List ℕ) → ℕ → Bool
+has_word ws place = nat_lt 0 (length (word ws place))
+
+-- of a line with too many words, where one of those that it takes may have been meant with blanks
+unfoldable pub blank_part : List (List ℕ) → List ℕ
+blank_part ws =
+    if has_file (word ws 0) && has_word ws 3
+    then codes "; a file word has no blanks, and quotes mean nothing"
+    else (if bytes_eq (word ws 0) (codes "offer") && has_word ws 4
+    then codes "; a file word has no blanks, and quotes mean nothing"
+    else (if bytes_eq (word ws 0) (codes "map") && has_word ws 4
+    then codes "; LIST has no blanks" else []))
+
+abbrev pub comment_part : List ℕ → List ℕ
+comment_part line =
+    if list_any (λ b. b == 0x23) line then codes "; a comment is a line of its own"
+    else blank_part (words_of line)
+
+-- WHAT A COMMAND TAKES
+unfoldable pub form_said : List ℕ → List ℕ → List ℕ
+form_said name line = quoted name ++ (takes_part name ++ comment_part line)
