@@ -83,7 +83,7 @@ def cut(place):
 
 
 def lists(place):
-    """Lists of gains above 64 KiB, from a file, from standard input and from a pipe."""
+    """Lists of gains above 64 KiB and 2 MB, from a file, from standard input and from a pipe."""
     points = [(7 * i, (i * 37) % 65535 - 32767) for i in range(12000)]
     text = "".join(f"{at} {gain}\n" for at, gain in points).encode()
     wanted = sequence(*((at, props(number(gain))) for at, gain in points))
@@ -94,6 +94,8 @@ def lists(place):
         place.forget("o.pod")
     place.feed("list.fifo", text)
     place.expect("a list from a pipe", ["gains", "list.fifo", "-"], 0, wanted, of=PODS)
+    place.file("long.list", b"#" * 2000000 + b"\n" + text)
+    place.expect("a list of more than 2 MB", ["gains", "long.list", "-"], 0, wanted, of=PODS)
     many = [(i, i % 200) for i in range(21845)]
     place.file("most.list", "".join(f"{at} {gain}\n" for at, gain in many))
     place.expect("as many points as may be", ["gains", "most.list", "-"], 0,

@@ -1,7 +1,7 @@
 """Files byte for byte: of sizes about 64 KiB, as loaded and as stored, and of 46 MB."""
 import struct
 
-from asking import MAIN, PODS
+from asking import MAIN, PICTURES, PODS
 from worked import chunk, form, number, pod, props, riff, sequence, thing, wav
 
 EDGES = [65535, 65536, 65537]
@@ -118,15 +118,20 @@ def loads(place):
 
 
 def traces(place):
-    """Traces of more than 64 KiB, legal and not at their last event."""
-    place.file("cycles.graph", "cycles 2000\n")
-    lines = [f"{event} {c}{name}\n" for c in range(2000) for event, name in
-             [("begin", ""), ("start", " dummy"), ("finish", " dummy"), ("end", "")]]
-    place.file("long.trace", "".join(lines))
-    place.expect("a long trace", ["check", "cycles.graph", "long.trace"], 0, "legal\n")
-    place.file("long.trace", "".join(lines[:-1]))
-    place.expect("a long trace without its end", ["check", "cycles.graph", "long.trace"], 0,
-                 "illegal 8000\n")
+    """Traces of more than 64 KiB and of more than 1 MiB, legal and not at their last event."""
+    for cycles in (2000, 30000):
+        place.file("cycles.graph", f"cycles {cycles}\n")
+        lines = [f"{event} {c}{name}\n" for c in range(cycles) for event, name in
+                 [("begin", ""), ("start", " dummy"), ("finish", " dummy"), ("end", "")]]
+        place.file("long.trace", "".join(lines))
+        words = ["cycles.graph", "long.trace"]
+        place.expect(f"a trace of {cycles} cycles", ["check", *words], 0, "legal\n")
+        drawn = place.ask("timeline", *words, of=PICTURES)
+        place.same(f"the picture of {cycles} cycles", (0, True),
+                   (drawn.status, drawn.out.endswith(b"</svg>\n")))
+        place.file("long.trace", "".join(lines[:-1]))
+        place.expect(f"{cycles} cycles without the end", ["check", *words], 0,
+                     f"illegal {4 * cycles}\n")
 
 
 def great(place):
@@ -142,6 +147,9 @@ def great(place):
                  text)
     stored(place, "a sink of 46 MB", "o.wav", 2, tiled([s * 200 >> 8 for s in samples], size))
     place.file("gains.pod", sequence((5, props(number(-128))), (6000001, props(number(256)))))
+    drawn = place.ask("wave", "great.wav", of=PICTURES)
+    place.same("the picture of 46 MB", (0, True, True),
+               (drawn.status, drawn.out.startswith(b"<svg"), drawn.out.endswith(b"</svg>\n")))
     place.expect("automate of four minutes", ["automate", "great.wav", "gains.pod", "o.wav"], 0,
                  f"wrote {FRAMES}\n")
     half = tiled([s * -128 >> 8 for s in samples], size)
