@@ -1,4 +1,5 @@
 pub mod OwnPoolsLemmas
+pub mod PlanPoolsLemmas
 pub mod turns
 pub mod SumLemmas
 pub mod OnlyLinkLemmas

@@ -1,4 +1,5 @@
 pub mod OwnPools
+pub mod PlanPools
 pub mod turns
 pub mod Gathering
 pub mod Members

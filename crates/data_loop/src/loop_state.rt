@@ -4,7 +4,9 @@ ghost use Rattle.pw_graph.specs.SoundPlan.{IsSoundPlan};
 ghost use Rattle.cycle_model.specs.WavesFit.{WavesFit};
 ghost use Rattle.data_loop.specs.Loops.{IsBetweenEpochs};
 ghost use Rattle.data_loop.specs.LoopStart.{AreFirstStates, IsLoopOf};
+ghost use Rattle.data_loop.specs.PlanPools.{pools_in};
 
+use crate::plan_pools::pools_in;
 use crate::rooms::{rows_of, widest_of};
 use crate::rows::Rows;
 use crate::stage::Stage;
@@ -13,7 +15,7 @@ use crate::tables::{room_for, tables_of};
 use board_rule::LoopSeat;
 use node_progress::{Score, prepare_node};
 use node_state::NodeState;
-use pw_graph::Plan;
+use pw_graph::{Plan, PoolShape};
 use pw_lists::{Items, Memory};
 use std::alloc::Global;
 use wav_files::WavIn;
@@ -98,8 +100,31 @@ impl LoopState {
         ensures of { IfOk result (IsLoopOf plan.now waves.now nodes.now seats) }
         ensures woke { IfOk result (λ s. s.woke ≡ 0) }
     {
+        let pools = pools_in(alloc, plan)?;
+        LoopState::with_pools(alloc, plan, waves, nodes, pools.as_slice(), seats)
+    }
+
+    /// As `new`, with the pools of each epoch, which all loops of a run have: so they are made once.
+    pub fn with_pools(
+        alloc: Global,
+        plan: &Plan,
+        waves: &Items<WavIn>,
+        nodes: &Items<u32>,
+        pools: &[Items<PoolShape>],
+        seats: Items<LoopSeat>,
+    ) -> Result<LoopState, Memory>
+        requires sound { IsSoundPlan plan.now }
+        requires waves { WavesFit plan.now waves.now }
+        requires nodes { AllPairs (λ m n. m < n) nodes.now }
+        requires places { All (λ n. n < length plan.now.nodes) nodes.now }
+        requires pools { pools.now ≡ pools_in plan.now }
+        requires seats { length seats ≡ length plan.now.epochs }
+        ensures between { IfOk result IsBetweenEpochs }
+        ensures of { IfOk result (IsLoopOf plan.now waves.now nodes.now seats) }
+        ensures woke { IfOk result (λ s. s.woke ≡ 0) }
+    {
         let score = Score::of(plan, waves);
-        let stages = stages_of(alloc, plan, nodes.as_slice(), seats)?;
+        let stages = stages_of(alloc, plan, nodes.as_slice(), pools, seats)?;
         let states = states_of(alloc, &score, plan, waves, nodes.as_slice())?;
         let rows = rows_of(alloc, widest_of(stages.as_slice()))?;
         let found = room_for(alloc, nodes.len())?;

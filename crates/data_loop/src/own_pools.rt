@@ -62,18 +62,27 @@ fn places_of(alloc: Global, nodes: &[u32], pools: &[PoolShape]) -> Result<Items<
     Ok(places)
 }
 
+// A copy of a pool.
+fn copy_of(alloc: Global, pool: &PoolShape) -> Result<PoolShape, Memory>
+    ensures { IfOk result (λ copy. copy ≡ pool.now) }
+{
+    Ok(PoolShape {
+        port: pool.port,
+        channels: pool.channels,
+        blocks: pool.blocks,
+        words: pool.words,
+        links: pool.links.copy(alloc)?,
+    })
+}
+
 // Those of the pools that these nodes fill.
-fn shapes_of(
-    alloc: Global,
-    nodes: &[u32],
-    pools: Items<PoolShape>,
-) -> Result<Items<PoolShape>, Memory>
-    ensures { IfOk result (λ shapes. shapes ≡ own_pools nodes.now pools) }
+fn shapes_of(alloc: Global, nodes: &[u32], pools: &[PoolShape]) -> Result<Items<PoolShape>, Memory>
+    ensures { IfOk result (λ shapes. shapes ≡ own_pools nodes.now pools.now) }
 {
     let mut shapes = Items::new(alloc);
-    for pool in pools.into_vec() {
+    for pool in pools {
         if is_among(nodes, pool.port.node) {
-            shapes.push(pool)?;
+            shapes.push(copy_of(alloc, pool)?)?;
         }
     }
     Ok(shapes)
@@ -96,13 +105,13 @@ pub(crate) fn pools_among(
     alloc: Global,
     shape: &Shape,
     nodes: &[u32],
-    pools: Items<PoolShape>,
+    pools: &[PoolShape],
 ) -> Result<OwnPools, Memory>
-    requires few { length pools ≤ links_limit }
-    requires pools { All (λ x. (1 ≤ x.blocks) × (x.blocks ≤ buffers_limit)) pools }
-    ensures { IfOk result (AreFirstPools shape.now nodes.now pools) }
+    requires few { length pools.now ≤ links_limit }
+    requires pools { All (λ x. (1 ≤ x.blocks) × (x.blocks ≤ buffers_limit)) pools.now }
+    ensures { IfOk result (AreFirstPools shape.now nodes.now pools.now) }
 {
-    let places = places_of(alloc, nodes, pools.as_slice())?;
+    let places = places_of(alloc, nodes, pools)?;
     let shapes = shapes_of(alloc, nodes, pools)?;
     let free = free_of(alloc, shape, shapes.as_slice())?.into_vec();
     Ok(OwnPools {

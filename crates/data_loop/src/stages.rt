@@ -3,6 +3,7 @@ ghost use Rattle.std.specs.Prelude.{◌≡◌, ◌<◌, ◌≤◌, ◌^◌, IfOk
 ghost use Rattle.pw_lists.specs.Limits.{nodes_limit};
 ghost use Rattle.pw_graph.specs.SoundPlan.{IsSoundPlan};
 ghost use Rattle.node_progress.specs.Restarts.{restart_of};
+ghost use Rattle.data_loop.specs.PlanPools.{pools_in};
 ghost use Rattle.data_loop.specs.StageParts.{IsFirstStage, AreFirstStages};
 
 use crate::front::Front;
@@ -11,7 +12,7 @@ use crate::own_pools::pools_among;
 use crate::stage::Stage;
 use board_rule::LoopSeat;
 use node_progress::restart_in;
-use pw_graph::{Plan, pools_of};
+use pw_graph::{Plan, PoolShape};
 use pw_lists::{Items, Memory};
 use std::alloc::Global;
 
@@ -39,18 +40,20 @@ fn stage_of(
     plan: &Plan,
     nodes: &[u32],
     epoch: usize,
+    pools: &[Items<PoolShape>],
     seat: LoopSeat,
 ) -> Result<Stage, Memory>
     requires sound { IsSoundPlan plan.now }
     requires inside { epoch < length plan.now.epochs }
     requires few { length nodes.now ≤ nodes_limit }
+    requires pools { pools.now ≡ pools_in plan.now }
     ensures { IfOk result (IsFirstStage plan.now nodes.now epoch seat) }
 {
     let restarts = restarts_of(alloc, plan, epoch, nodes)?;
+    let pools = pools[epoch].as_slice();
     let epoch = &plan.epochs.as_slice()[epoch];
-    let pools = pools_of(alloc, &epoch.shape)?;
-    let members = members_by(alloc, plan, epoch, pools.as_slice(), nodes, false)?;
-    let driver = members_by(alloc, plan, epoch, pools.as_slice(), nodes, true)?;
+    let members = members_by(alloc, plan, epoch, pools, nodes, false)?;
+    let driver = members_by(alloc, plan, epoch, pools, nodes, true)?;
     let own = pools_among(alloc, &epoch.shape, nodes, pools)?;
     Ok(Stage {
         seat,
@@ -62,22 +65,25 @@ fn stage_of(
     })
 }
 
-/// What the loop of these nodes has in each epoch, with its seats, one an epoch.
+/// What the loop of these nodes has in each epoch, with its seats, one an epoch. `pools` are those
+/// of each epoch.
 pub(crate) fn stages_of(
     alloc: Global,
     plan: &Plan,
     nodes: &[u32],
+    pools: &[Items<PoolShape>],
     seats: Items<LoopSeat>,
 ) -> Result<Items<Stage>, Memory>
     requires sound { IsSoundPlan plan.now }
     requires few { length nodes.now ≤ nodes_limit }
+    requires pools { pools.now ≡ pools_in plan.now }
     requires count { length seats ≡ length plan.now.epochs }
     ensures { IfOk result (AreFirstStages plan.now nodes.now seats) }
 {
     let mut stages = Items::new(alloc);
     let mut epoch = 0;
     for seat in seats.into_vec() {
-        stages.push(stage_of(alloc, plan, nodes, epoch, seat)?)?;
+        stages.push(stage_of(alloc, plan, nodes, epoch, pools, seat)?)?;
         epoch += 1;
     }
     Ok(stages)

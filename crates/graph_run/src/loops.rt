@@ -4,43 +4,46 @@ ghost use Rattle.pw_graph.specs.SoundPlan.{IsSoundPlan};
 ghost use Rattle.cycle_model.specs.WavesFit.{WavesFit};
 ghost use Rattle.data_loop.specs.LoopStart.{IsLoopOf};
 ghost use Rattle.data_loop.specs.Loops.{IsBetweenEpochs};
+ghost use Rattle.data_loop.specs.PlanPools.{pools_in};
 ghost use Rattle.graph_run.specs.Loops.{AreLoopsOf, AreReadyOnBoards};
 ghost use Rattle.graph_run.specs.Seating.{IsSeatingOf, holder_of, nodes_of_loop};
 
 use crate::seating::{Seating, nodes_of_loop};
 use board_rule::LoopSeat;
-use data_loop::LoopState;
-use pw_graph::Plan;
+use data_loop::{LoopState, pools_in};
+use pw_graph::{Plan, PoolShape};
 use pw_lists::{Items, Memory, Room};
 use std::alloc::Global;
 use wav_files::WavIn;
 
-// One loop of a plan, with its seats, one an epoch.
+// One loop of a plan, with the pools of each epoch, and its seats, one an epoch.
 fn loop_with(
     alloc: Global,
     plan: &Plan,
     waves: &Items<WavIn>,
     seating: &Seating,
     which: u32,
+    pools: &[Items<PoolShape>],
     seats: Items<LoopSeat>,
 ) -> Result<LoopState, Memory>
     requires sound { IsSoundPlan plan.now }
     requires fit { WavesFit plan.now waves.now }
+    requires pools { pools.now ≡ pools_in plan.now }
     requires seats { length seats ≡ length plan.now.epochs }
     ensures between { IfOk result IsBetweenEpochs }
     ensures of { IfOk result (IsLoopOf plan.now waves.now
         (nodes_of_loop (holder_of seating.now) plan.now which) seats) }
 {
     let nodes = nodes_of_loop(alloc, plan, seating, which)?;
-    LoopState::new(alloc, plan, waves, &nodes, seats)
+    LoopState::with_pools(alloc, plan, waves, &nodes, pools, seats)
 }
 
 /// The loops of a plan before the first epoch, in the order of their seats, and last the driver's
 /// own. Each has the nodes that the seating has on its seat, and its seats, one an epoch, in order.
 /// After `Memory` all seats are dropped.
 ///
-/// Memory: a state for each node of the plan, and for each loop and epoch the free blocks of the
-/// epoch's pools.
+/// Memory: a state for each node of the plan, and for each epoch its pools with their free blocks,
+/// and a place for each in each loop; while the loops are made, the pools once more.
 pub fn loops_of(
     alloc: Global,
     plan: &Plan,
@@ -62,10 +65,13 @@ pub fn loops_of(
     ensures ready { IfOk result
         (AreReadyOnBoards plan.now waves.now seating.now (map (λ row. row.list) seats.items)) }
 {
+    let pools = pools_in(alloc, plan)?;
     let mut states = Items::new(alloc);
     let mut which = 0;
     for row in seats {
-        states.push(loop_with(alloc, plan, waves, seating, which, row.into_items())?)?;
+        let pools = pools.as_slice();
+        let seats = row.into_items();
+        states.push(loop_with(alloc, plan, waves, seating, which, pools, seats)?)?;
         which += 1;
     }
     Ok(states)

@@ -6,5 +6,5 @@ use Rattle.data_loop.specs.OwnPools.{is_own}
 use Rattle.data_loop.proofs.own_pools.pools_among.Goals as goal
 
 pub free_of-requires : goal.free_of-requires
-free_of-requires c = subst (All (λ (x : PoolShape). (1 ≤ x.blocks) × (x.blocks ≤ 8))) (sym (c.as_slice-2.ensures ∙ c.in_ok-shapes.ensures))
-    (All-filter (is_own c.args.nodes.now) (λ (x : PoolShape). (1 ≤ x.blocks) × (x.blocks ≤ 8)) c.args.pools c.requires.pools)
+free_of-requires c = subst (All (λ (x : PoolShape). (1 ≤ x.blocks) × (x.blocks ≤ 8))) (sym (c.as_slice.ensures ∙ c.in_ok-shapes.ensures))
+    (All-filter (is_own c.args.nodes.now) (λ (x : PoolShape). (1 ≤ x.blocks) × (x.blocks ≤ 8)) c.args.pools.now c.requires.pools)

@@ -10,7 +10,7 @@ use Rattle.data_loop.specs.declared.stage.Stage.{Stage}
 use Rattle.data_loop.specs.LoopStart.{AreFirstStates}
 use Rattle.data_loop.specs.StageParts.{AreFirstStages, IsStageWithin}
 use Rattle.data_loop.proofs.StartLemmas.{few_numbers, seats_are, starts}
-use Rattle.data_loop.proofs.loop_state.LoopState.new.Goals as goal
+use Rattle.data_loop.proofs.loop_state.LoopState.with_pools.Goals as goal
 
 pub stages_of-requires-clause-few : goal.stages_of-requires-clause-few
 stages_of-requires-clause-few c = let few = few_numbers c.args.nodes.now (length c.args.plan.now.nodes) c.requires.nodes c.requires.places in
