@@ -104,7 +104,8 @@ fn end_text<S: Ending, O: Sink>(alloc: Global, out: &mut O, text: &[u8]) -> S
 ///
 /// Nothing is stored after a failed store, and nothing is put after a failed put. Lack of memory is
 /// the status where it ended the stores or the text, or where it kept a line from being put. Where
-/// there are no stores, the files are as before. Takes memory for the file of a wave that is stored.
+/// there are no stores, the files are as before. Takes memory for the file of a wave that is
+/// stored.
 pub fn finish<S: Ending, F: Files, O: Sink>(
     alloc: Global,
     files: &mut F,
