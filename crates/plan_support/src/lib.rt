@@ -12,7 +12,7 @@ mod silence;
 mod texts;
 mod work;
 
-pub use meeting::{MeetAll, SIXTEEN_SQUARES};
+pub use meeting::{MeetAll, SEVENTEEN_SQUARES};
 pub use ready::TextFault;
 pub use silence::Silence;
 pub use texts::{parts_text, plan_offered, plan_text, plans_text};

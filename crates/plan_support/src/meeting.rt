@@ -57,21 +57,22 @@ impl Gate for MeetAll {
     }
 }
 
-/// Sixteen squares, by 16 loops each of a loop of its own, into a sink that drives, for one cycle,
-/// since each look for the others may be in vain.
-pub const SIXTEEN_SQUARES: WorkRow<'static> = WorkRow {
+/// Seventeen squares into a sink that drives, for one cycle, since each look for the others may be
+/// in vain. By 16 loops the first sixteen are each of another loop.
+pub const SEVENTEEN_SQUARES: WorkRow<'static> = WorkRow {
     text: "quantum 2\n\
         square s0 48000 1 4 100\nsquare s1 48000 1 4 100\nsquare s2 48000 1 4 100\n\
         square s3 48000 1 4 100\nsquare s4 48000 1 4 100\nsquare s5 48000 1 4 100\n\
         square s6 48000 1 4 100\nsquare s7 48000 1 4 100\nsquare s8 48000 1 4 100\n\
         square s9 48000 1 4 100\nsquare s10 48000 1 4 100\nsquare s11 48000 1 4 100\n\
         square s12 48000 1 4 100\nsquare s13 48000 1 4 100\nsquare s14 48000 1 4 100\n\
-        square s15 48000 1 4 100\n\
+        square s15 48000 1 4 100\nsquare s16 48000 1 4 100\n\
         sink o o.wav\ndriver o 1\n\
         link s0.out o.in\nlink s1.out o.in\nlink s2.out o.in\nlink s3.out o.in\n\
         link s4.out o.in\nlink s5.out o.in\nlink s6.out o.in\nlink s7.out o.in\n\
         link s8.out o.in\nlink s9.out o.in\nlink s10.out o.in\nlink s11.out o.in\n\
         link s12.out o.in\nlink s13.out o.in\nlink s14.out o.in\nlink s15.out o.in\n\
+        link s16.out o.in\n\
         cycles 1\n",
     channels: 0,
     samples: &[],
