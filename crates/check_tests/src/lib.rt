@@ -5,4 +5,6 @@
 #[cfg(test)]
 mod meter;
 #[cfg(test)]
+mod reasons;
+#[cfg(test)]
 mod traces;

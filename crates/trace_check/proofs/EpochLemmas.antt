@@ -1,7 +1,7 @@
 -- Fronts of the cycles of an epoch, and of epochs one after the other.
-use Rattle.std.proofs.Common.{◌≡◌, ℕ, ◌+◌, ◌<◌, ◌≤◌, List, [], ◌∷◌, ◌++◌, map, length, get_or, take, drop, sym, ap, ◌∙◌, subst, arith}
+use Rattle.std.proofs.Common.{◌≡◌, ℕ, zero, suc, ◌+◌, ◌<◌, ◌≤◌, Option, refl, List, [], ◌∷◌, ◌++◌, map, length, get_or, take, drop, sym, ap, ◌∙◌, subst, arith}
 use Rattle.std.proofs.Common.{append_assoc, append-nil}
-use Rattle.std.specs.Prelude.{All}
+use Rattle.std.specs.Prelude.{All, slice_get}
 use Rattle.std.specs.List.{range_with_len}
 use Rattle.std.proofs.lemmas.List.{take-append-drop, length-take-le, length-drop, map-append, take_more}
 use Rattle.std.proofs.lemmas.List.Elements.{All-map, All-drop, All-append, All-nil, All-head, All-tail}
@@ -12,8 +12,10 @@ use Rattle.pw_graph.specs.declared.plan.Epoch.{Epoch}
 use Rattle.pw_graph.specs.declared.shape.Shape.{Shape}
 use Rattle.pw_graph.specs.History.{AreJoined, epoch_cycles, cycles_of}
 use Rattle.pw_graph.specs.SoundShape.{IsSoundShape}
-use Rattle.trace_check.specs.declared.following.Front.TheVariants.{Part}
-use Rattle.trace_check.specs.working.Fronts.{AreSound, StopAfter, IsFrontOf}
+use Rattle.trace_check.specs.declared.causes.Cause.{Cause}
+use Rattle.trace_check.specs.Reasons.{IsCauseIn}
+use Rattle.trace_check.specs.working.Fronts.{AreSound, StopAfter, StopsAfter}
+use Rattle.trace_check.proofs.CauseLemmas.{cause_on}
 use Rattle.trace_check.proofs.FrontsLemmas.{take_behind, joined_more, stop_behind, stop_at_end}
 
 -- a front of what is after a front
@@ -35,6 +37,21 @@ pub joins_on : (front more : List (Shape × ℕ)) (es : List Event) (at n : ℕ)
     → AreJoined more (take n (drop at es)) → AreJoined (front ++ more) (take (at + n) es)
 joins_on front more es at n le h g = subst (AreJoined (front ++ more)) (sym (taken_on es at n le))
     (joined_more front more (take at es) (take n (drop at es)) h g)
+
+-- and the cause for which they stop, whatever cycles are later
+got_on : (es : List Event) (at n : ℕ) → slice_get (drop at es) n ≡ slice_get es (at + n)
+got_on es zero n = let e : n ≡ 0 + n = omega arith in ap (slice_get es) e
+got_on [] (suc at) n = refl
+got_on (x ∷ es) (suc at) n = let e : suc (at + n) ≡ suc at + n = omega arith in
+    got_on es at n ∙ ap (slice_get (x ∷ es)) e
+
+causes_on : (front more later : List (Shape × ℕ)) (es : List Event) (at n : ℕ) (cause : Cause) → at ≤ length es
+    → AreJoined front (take at es) → IsCauseIn more (take n (drop at es)) (slice_get (drop at es) n) cause
+    → IsCauseIn (front ++ (more ++ later)) (take (at + n) es) (slice_get es (at + n)) cause
+causes_on front more later es at n cause le h why =
+    subst (λ (p : List Event × Option Event). IsCauseIn (front ++ (more ++ later)) p.0 p.1 cause)
+    (λ i. (sym (taken_on es at n le) i, got_on es at n i))
+    (cause_on front more later (take at es) (take n (drop at es)) (slice_get (drop at es) n) cause h why)
 
 module _ (shape : Shape) (sound : IsSoundShape shape) where
   pub epoch_sound : (count : ℕ) → AreSound (epoch_cycles shape count)
@@ -61,7 +78,7 @@ module _ (shape : Shape) (sound : IsSoundShape shape) where
         (joins_on (epoch_cycles shape k) ((shape, cycle) ∷ []) es at n le h g)
 
     pub epoch_stops : (es : List Event) (at n : ℕ) → k < shape.cycles → at ≤ length es → AreJoined (epoch_cycles shape k) (take at es)
-        → IsFrontOf ((shape, cycle) ∷ []) (drop at es) (Part n) → IsFrontOf (epoch_cycles shape shape.cycles) es (Part (at + n))
+        → StopsAfter ((shape, cycle) ∷ []) (drop at es) n → StopsAfter (epoch_cycles shape shape.cycles) es (at + n)
     epoch_stops es at n lt le h stops later sounds =
         let rest : AreSound (others ++ later) = All-append (λ c. IsSoundShape c.0) others later
         (All-drop (λ c. IsSoundShape c.0) (k + 1) (epoch_cycles shape shape.cycles) (epoch_sound shape.cycles)) sounds in
@@ -69,6 +86,13 @@ module _ (shape : Shape) (sound : IsSoundShape shape) where
         sym (append_assoc (epoch_cycles shape k) ((shape, cycle) ∷ others) later) ∙ ap (λ cs. cs ++ later) (whole lt) in
         subst (λ cs. StopAfter cs es (at + n)) same
         (stops_on (epoch_cycles shape k) ((shape, cycle) ∷ (others ++ later)) es at n le h (stops (others ++ later) rest))
+
+    pub epoch_cause : (es : List Event) (at n : ℕ) (cause : Cause) → k < shape.cycles → at ≤ length es
+        → AreJoined (epoch_cycles shape k) (take at es)
+        → IsCauseIn ((shape, cycle) ∷ []) (take n (drop at es)) (slice_get (drop at es) n) cause
+        → IsCauseIn (epoch_cycles shape shape.cycles) (take (at + n) es) (slice_get es (at + n)) cause
+    epoch_cause es at n cause lt le h why = subst (λ cs. IsCauseIn cs (take (at + n) es) (slice_get es (at + n)) cause) (whole lt)
+        (causes_on (epoch_cycles shape k) ((shape, cycle) ∷ []) others es at n cause le h why)
 
 abbrev of_epochs : List Epoch → List (Shape × ℕ)
 of_epochs epochs = cycles_of (map (λ e. e.shape) epochs)
@@ -106,7 +130,7 @@ module _ (epochs : List Epoch) (i : ℕ) (e : Epoch) (lt : i < length epochs) (i
 
   pub history_stops : (es : List Event) (at n : ℕ) → All (λ e. IsSoundShape e.shape) epochs → at ≤ length es
       → AreJoined (cycles_of (map (λ e. e.shape) (take i epochs))) (take at es)
-      → IsFrontOf (epoch_cycles e.shape e.shape.cycles) (drop at es) (Part n) → IsFrontOf (cycles_of (map (λ e. e.shape) epochs)) es (Part (at + n))
+      → StopsAfter (epoch_cycles e.shape e.shape.cycles) (drop at es) n → StopsAfter (cycles_of (map (λ e. e.shape) epochs)) es (at + n)
   history_stops es at n sound le h stops later sounds =
       let rest : AreSound (behind ++ later) = All-append (λ c. IsSoundShape c.0) behind later
       (all_sound (drop (i + 1) epochs) (All-drop (λ e. IsSoundShape e.shape) (i + 1) epochs sound)) sounds in
@@ -115,6 +139,13 @@ module _ (epochs : List Epoch) (i : ℕ) (e : Epoch) (lt : i < length epochs) (i
       ∙ sym (append_assoc (of_epochs (take i epochs)) (epoch_cycles e.shape e.shape.cycles ++ behind) later) ∙ ap (λ cs. cs ++ later) all_epochs in
       subst (λ cs. StopAfter cs es (at + n)) same
       (stops_on (of_epochs (take i epochs)) (epoch_cycles e.shape e.shape.cycles ++ (behind ++ later)) es at n le h (stops (behind ++ later) rest))
+
+  pub history_cause : (es : List Event) (at n : ℕ) (cause : Cause) → at ≤ length es
+      → AreJoined (cycles_of (map (λ e. e.shape) (take i epochs))) (take at es)
+      → IsCauseIn (epoch_cycles e.shape e.shape.cycles) (take n (drop at es)) (slice_get (drop at es) n) cause
+      → IsCauseIn (cycles_of (map (λ e. e.shape) epochs)) (take (at + n) es) (slice_get es (at + n)) cause
+  history_cause es at n cause le h why = subst (λ cs. IsCauseIn cs (take (at + n) es) (slice_get es (at + n)) cause) all_epochs
+      (causes_on (of_epochs (take i epochs)) (epoch_cycles e.shape e.shape.cycles) behind es at n cause le h why)
 
 -- after all epochs
 pub history_ends : (cycles : List (Shape × ℕ)) (es : List Event) (at : ℕ) → at < length es → AreJoined cycles (take at es) → StopAfter cycles es at

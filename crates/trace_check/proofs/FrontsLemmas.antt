@@ -12,6 +12,7 @@ use Rattle.pw_graph.specs.declared.shape.Shape.{Shape}
 use Rattle.pw_graph.specs.History.{IsLegalInside, IsLegalCycle, AreJoined}
 use Rattle.pw_graph.specs.working.HistoryFronts.{is_end}
 use Rattle.pw_graph.specs.SoundShape.{IsSoundShape}
+use Rattle.trace_check.specs.declared.causes.Cause.{Cause}
 use Rattle.trace_check.specs.declared.following.Front.TheVariants.{Whole, Part}
 use Rattle.trace_check.specs.working.NextEvent.{MayFollow, AreAllowed, HaveFinished}
 use Rattle.trace_check.specs.working.Fronts.{AreSound, GoOn, StopAfter, IsFrontInside}
@@ -204,8 +205,9 @@ module _ (shape : Shape) (cycle : ℕ) (sound : IsSoundShape shape) (later : Lis
     head_of e = cc
 
   -- events that stop after the Begin
-  pub stop_inside : (rest : List Event) (n : ℕ) → IsFrontInside shape cycle rest (Part n) → StopAfter cycles (Begin cycle ∷ rest) (n + 1)
-  stop_inside rest n h = record {
+  pub stop_inside : (rest : List Event) (n : ℕ) (cause : Cause) → IsFrontInside shape cycle rest (Part n cause)
+      → StopAfter cycles (Begin cycle ∷ rest) (n + 1)
+  stop_inside rest n cause h = record {
     within = let le : n ≤ length rest = h.0 in omega arith;
     goes_on = subst (GoOn cycles) (sym taken) (let more = all_joined later sounds in begun_goes_on shape cycle later more.0 sound more.1 (take n rest) h.1);
     stops = λ lt. no_more (omega arith);

@@ -7,5 +7,7 @@ pub mod AdmittingLemmas
 pub mod FrontsLemmas
 pub mod FirstIllegalLemmas
 pub mod OrderLemmas
+pub mod CauseLemmas
+pub mod KeptLemmas
 pub mod EpochLemmas
 pub mod FindingLemmas

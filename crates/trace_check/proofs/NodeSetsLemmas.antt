@@ -3,12 +3,12 @@ use Rattle.std.proofs.Common.{◌≡◌, ℕ, ◌*◌, ◌%◌, ◌^◌, ◌<◌
 use mathlib.Core.Logic.{dite}
 use native.Mathlib.Decide.{ℕ_discrete}
 use Rattle.std.specs.Prelude.{IsBitSet}
-use Rattle.std.specs.Int.{bit_at, bit_not}
+use Rattle.std.specs.Int.{bit_at, bit_not, trailing_zeros}
 use Rattle.std.proofs.lemmas.Bool.{cases_lt}
-use Rattle.std.proofs.lemmas.Nat.{bit_set_by_shift}
+use Rattle.std.proofs.lemmas.Nat.{bit_set_by_shift, and_le_l}
 use Rattle.std.proofs.lemmas.Nat.Bits.{shr_and_one, bit_at-zero, bit_at_and, bit_at_not, bit_at-lt, bit_at_above, same_from_bits}
-use Rattle.std.proofs.lemmas.Nat.Bits.{bit_at_set_same, bit_at_set_other, bit_at_clear_same, bit_at_clear_other}
-use Rattle.trace_check.specs.working.NodeSets.{IsWithin, AreApart, Gains, Loses}
+use Rattle.std.proofs.lemmas.Nat.Bits.{bit_at_set_same, bit_at_set_other, bit_at_clear_same, bit_at_clear_other, bit_at-trailing_zeros}
+use Rattle.trace_check.specs.working.NodeSets.{IsWithin, AreApart, Gains, Loses, IsDifference, IsFirstOutside}
 
 -- a bit as a number
 pub bit_of : (n k : ℕ) → IsBitSet n k → bit_at n k ≡ 1
@@ -74,3 +74,26 @@ apart a b fa = (
     | inr ge ↦ high_bit a b i fa ge ∙ sym (bit_at-zero i)
   ]),
 )
+
+pub difference_of : (a b : ℕ) → b < 2 ^ 64 → IsDifference a b (bit_and a (bit_not w64 b))
+difference_of a b fb n lt =
+    let e = bit_at_and a (bit_not w64 b) n in let is = bit_at_not w64 b n fb lt in let small = bit_at-lt b n in (
+      λ h. let both = bit_of _ n h in (of_bit a n (omega arith), λ g. let one = bit_of b n g in absurd (omega arith)),
+      λ h. let one = bit_of a n h.0 in dite (ℕ_discrete (bit_at b n) 1) (λ two. absurd (h.1 (of_bit b n two))) (λ ne. of_bit _ n (omega arith)),
+    )
+
+pub first_outside_of : (a b : ℕ) → a < 2 ^ 64 → b < 2 ^ 64 → ¬ IsWithin a b → IsFirstOutside a b (trailing_zeros w64 (bit_and a (bit_not w64 b)))
+first_outside_of a b fa fb more =
+    let x : ℕ = bit_and a (bit_not w64 b) in
+    let some : 0 < x = dite (ℕ_discrete x 0) (λ z. absurd (more ((within a b fa fb).0 z))) (λ ne. omega arith) in
+    let fits : x < 2 ^ 64 = (let le = and_le_l a (bit_not w64 b) in omega arith) in
+    let t = bit_at-trailing_zeros w64 x some fits in
+    let here = (difference_of a b fb (trailing_zeros w64 x) t.0).0 (of_bit x (trailing_zeros w64 x) t.1) in
+    record {
+      small = t.0;
+      inside = here.0;
+      outside = here.1;
+      first = λ m lt h. dite (ℕ_discrete (bit_at b m) 1) (of_bit b m)
+          (λ ne. let one = bit_of x m ((difference_of a b fb m (omega (arith, t.0))).1 (h, λ g. ne (bit_of b m g))) in
+          let zero = t.2 m lt in absurd (omega arith));
+    }

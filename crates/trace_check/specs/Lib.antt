@@ -1,3 +1,5 @@
+pub mod Causes
 pub mod Finding
 pub mod FirstIllegal
+pub mod Reasons
 pub mod working

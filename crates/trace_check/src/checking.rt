@@ -38,7 +38,7 @@ fn verdict_of(front: Front, count: usize) -> Verdict
                 Verdict::Illegal { at: (n + 1) as u32 }
             }
         }
-        Front::Part(n) => Verdict::Illegal { at: (n + 1) as u32 },
+        Front::Part(n, _cause) => Verdict::Illegal { at: (n + 1) as u32 },
     }
 }
 

@@ -6,6 +6,7 @@ ghost use Rattle.pw_graph.specs.History.{epoch_cycles, cycles_of};
 ghost use Rattle.trace_check.specs.working.Admitting.{IsOrderOf};
 ghost use Rattle.trace_check.specs.working.Fronts.{front_length, IsFrontOf, IsFrontInside};
 
+use crate::causes::{Cause, event_cause, missing_cause};
 use crate::next_event::may_follow;
 use crate::node_sets::is_within;
 use crate::order::{Order, order_of};
@@ -19,8 +20,8 @@ use std::alloc::Global;
 pub(crate) enum Front {
     /// The first n events are all that was looked for.
     Whole(usize),
-    /// The first n events can go on, and not one more, or no more are there.
-    Part(usize),
+    /// The first n events can go on, and not one more, or no more are there; and why.
+    Part(usize, Cause),
 }
 
 // Whether an event is the Begin of a cycle.
@@ -57,10 +58,10 @@ fn follow_inside(order: &Order, shape: &Shape, cycle: u32, events: &[Event]) -> 
         } else if is_end_of(&event, cycle) && is_within(order.active, so_far.finished) {
             return Front::Whole(i);
         } else {
-            return Front::Part(i);
+            return Front::Part(i, event_cause(order, shape.driver, cycle, so_far, &event));
         }
     }
-    Front::Part(events.len())
+    Front::Part(events.len(), missing_cause(order, cycle, so_far))
 }
 
 // How far events go on as those of one cycle.
@@ -71,14 +72,14 @@ fn follow_cycle(order: &Order, shape: &Shape, cycle: u32, events: &[Event]) -> F
     ensures front { IsFrontOf ((shape.now, cycle) ∷ []) events.now result }
 {
     let Some((first, rest)) = events.split_first() else {
-        return Front::Part(0);
+        return Front::Part(0, Cause::NotBegun { cycle });
     };
     if !is_begin_of(first, cycle) {
-        return Front::Part(0);
+        return Front::Part(0, Cause::NotBegun { cycle });
     }
     match follow_inside(order, shape, cycle, rest) {
         Front::Whole(n) => Front::Whole(n + 2),
-        Front::Part(n) => Front::Part(n + 1),
+        Front::Part(n, cause) => Front::Part(n + 1, cause),
     }
 }
 
@@ -94,7 +95,7 @@ fn follow_epoch(alloc: Global, shape: &Shape, events: &[Event]) -> Result<Front,
         let (_before, rest) = events.split_at(at);
         match follow_cycle(&order, shape, shape.first + k, rest) {
             Front::Whole(n) => at += n,
-            Front::Part(n) => return Ok(Front::Part(at + n)),
+            Front::Part(n, cause) => return Ok(Front::Part(at + n, cause)),
         }
     }
     Ok(Front::Whole(at))
@@ -118,7 +119,7 @@ pub(crate) fn follow_epochs(
         let (_before, rest) = events.split_at(at);
         match follow_epoch(alloc, &epoch.shape, rest)? {
             Front::Whole(n) => at += n,
-            Front::Part(n) => return Ok(Front::Part(at + n)),
+            Front::Part(n, cause) => return Ok(Front::Part(at + n, cause)),
         }
     }
     Ok(Front::Whole(at))

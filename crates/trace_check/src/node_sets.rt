@@ -1,6 +1,6 @@
 //! Sets of node numbers: bit n is node n.
 ghost use Rattle.std.specs.Prelude.{◌<◌, IsTrue, ◌↔◌, IsBitSet};
-ghost use Rattle.trace_check.specs.working.NodeSets.{IsWithin, AreApart, Gains, Loses};
+ghost use Rattle.trace_check.specs.working.NodeSets.{IsWithin, AreApart, Gains, Loses, IsDifference, IsFirstOutside};
 
 /// Whether a node is in the set.
 pub(crate) fn has(set: u64, node: u32) -> bool
@@ -38,4 +38,19 @@ pub(crate) fn are_apart(set: u64, other: u64) -> bool
     ensures { IsTrue result ↔ AreApart set other }
 {
     set & other == 0
+}
+
+/// The nodes of one set that are not in another.
+pub(crate) fn difference(set: u64, other: u64) -> u64
+    ensures { IsDifference set other result }
+{
+    set & !other
+}
+
+/// The first node of one set that is not in another.
+pub(crate) fn first_outside(set: u64, other: u64) -> u32
+    requires { ¬ IsWithin set other }
+    ensures { IsFirstOutside set other result }
+{
+    (set & !other).trailing_zeros()
 }

@@ -8,6 +8,8 @@ use Rattle.pw_graph.specs.declared.shape.Shape.{Shape}
 use Rattle.pw_graph.specs.Dependencies.{nodes_of, Precedes}
 use Rattle.trace_check.specs.declared.order.Order.{Order}
 use Rattle.trace_check.specs.declared.so_far.SoFar.{SoFar}
+use Rattle.pw_graph.specs.SoundShape.{IsSoundShape}
+use Rattle.trace_check.specs.working.NextEvent.{AreAllowed}
 use Rattle.trace_check.specs.working.NodeSets.{IsWithin, AreApart, Gains}
 
 -- the set has just the nodes of which something holds
@@ -26,6 +28,14 @@ pub record StandsFor (cycle : ℕ) (front : List Event) (so_far : SoFar) : Type 
   pub started : IsSetOf so_far.started (λ n. Contains front (Start cycle n))
   pub finished : IsSetOf so_far.finished (λ n. Contains front (Finish cycle n))
   pub ticked : IsTrue so_far.ticked ↔ ((c : ℕ) × (late : ℕ) × Contains front (Tick c late))
+
+-- what is kept of a cycle after events that its rules allow
+pub record IsKept (shape : Shape) (cycle : ℕ) (front : List Event) (order : Order) (so_far : SoFar)
+    : Type 0 where
+  pub sound : IsSoundShape shape
+  pub ordered : IsOrderOf shape order
+  pub allowed : AreAllowed shape cycle front
+  pub stands : StandsFor cycle front so_far
 
 -- by the sets: an event that may come next
 abbrev pub Admits : Order → ℕ → ℕ → SoFar → Event → Type 0

@@ -1,6 +1,6 @@
 -- How far events go on as those of cycles, one cycle after the other.
 -- Source: this project's.
-use Rattle.std.specs.Prelude.{◌≡◌, ℕ, ◌+◌, ◌<◌, ◌≤◌, List, ◌++◌, length, take, All, slice_index_or}
+use Rattle.std.specs.Prelude.{◌≡◌, ℕ, ◌+◌, ◌<◌, ◌≤◌, List, ◌++◌, length, take, All, slice_get, slice_index_or}
 use Rattle.pw_graph.specs.declared.event.Event.{Event}
 use Rattle.pw_graph.specs.declared.event.Event.TheVariants.{End}
 use Rattle.pw_graph.specs.declared.shape.Shape.{Shape}
@@ -8,6 +8,8 @@ use Rattle.pw_graph.specs.SoundShape.{IsSoundShape}
 use Rattle.pw_graph.specs.History.{AreJoined}
 use Rattle.trace_check.specs.declared.following.Front.{Front}
 use Rattle.trace_check.specs.declared.following.Front.TheVariants.{Whole, Part}
+use Rattle.trace_check.specs.Causes.{IsCauseInside}
+use Rattle.trace_check.specs.Reasons.{IsCauseIn}
 use Rattle.trace_check.specs.working.NextEvent.{MayFollow, AreAllowed, HaveFinished}
 
 abbrev pub AreSound : List (Shape × ℕ) → Type 0
@@ -27,13 +29,18 @@ pub record StopAfter (cycles : List (Shape × ℕ)) (events : List Event) (n : �
 -- how many events a front, a prefix of them, has
 abbrev pub front_length : Front → ℕ
 front_length (Whole n) = n
-front_length (Part n) = n
+front_length (Part n cause) = n
 
--- the first events are the cycles, whole; or they stop, whatever cycles follow
+-- whatever cycles follow, the events stop
+abbrev pub StopsAfter : List (Shape × ℕ) → List Event → ℕ → Type 0
+StopsAfter cycles events n = (later : List (Shape × ℕ)) → AreSound later
+    → StopAfter (cycles ++ later) events n
+
+-- the first events are the cycles, whole; or they stop, and for this cause
 abbrev pub IsFrontOf : List (Shape × ℕ) → List Event → Front → Type 0
 IsFrontOf cycles events (Whole n) = AreJoined cycles (take n events)
-IsFrontOf cycles events (Part n) = (later : List (Shape × ℕ)) → AreSound later
-    → StopAfter (cycles ++ later) events n
+IsFrontOf cycles events (Part n cause) = StopsAfter cycles events n
+    × IsCauseIn cycles (take n events) (slice_get events n) cause
 
 -- after a Begin: the events before the n-th may follow, and that is the End of the whole cycle; or
 -- they stop
@@ -42,8 +49,9 @@ IsFrontInside shape cycle events (Whole n) = (n < length events)
     × AreAllowed shape cycle (take n events)
     × HaveFinished shape cycle (take n events)
     × ((d : Event) → slice_index_or events n d ≡ End cycle)
-IsFrontInside shape cycle events (Part n) = (n ≤ length events)
+IsFrontInside shape cycle events (Part n cause) = (n ≤ length events)
     × AreAllowed shape cycle (take n events)
     × (n < length events → (d : Event)
     → ¬ MayFollow shape cycle (take n events) (slice_index_or events n d)
     × ((slice_index_or events n d ≡ End cycle) → ¬ HaveFinished shape cycle (take n events)))
+    × IsCauseInside shape cycle (take n events) (slice_get events n) cause

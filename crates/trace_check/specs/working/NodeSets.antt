@@ -16,3 +16,15 @@ Gains old node new = (n : ℕ) → n < 64 → IsBitSet new n ↔ (IsBitSet old n
 -- the nodes of the new set are those of the old one but for this one
 abbrev pub Loses : ℕ → ℕ → ℕ → Type 0
 Loses old node new = (n : ℕ) → n < 64 → IsBitSet new n ↔ (IsBitSet old n × ¬ (n ≡ node))
+
+-- the nodes of the new set are those of one set that are not in the other
+abbrev pub IsDifference : ℕ → ℕ → ℕ → Type 0
+IsDifference set other new = (n : ℕ) → n < 64
+    → IsBitSet new n ↔ (IsBitSet set n × ¬ IsBitSet other n)
+
+-- the first node of a set that is not in another
+pub record IsFirstOutside (set other n : ℕ) : Type 0 where
+  pub small : n < 64
+  pub inside : IsBitSet set n
+  pub outside : ¬ IsBitSet other n
+  pub first : (m : ℕ) → m < n → IsBitSet set m → IsBitSet other m

@@ -25,4 +25,4 @@ pub returns-in-Part : goal.returns-in-Part
 returns-in-Part c = λ shapes events long front.
     let stops = subst (IsFrontOf (cycles_of shapes) events) c.in-Part.is front in
     first_illegal shapes events c.in-Part.n (c.in-Part.n + 1) refl
-    (subst (λ cs. StopAfter cs events c.in-Part.n) (append-nil (cycles_of shapes)) (stops [] (All-nil (λ c. IsSoundShape c.0))))
+    (subst (λ cs. StopAfter cs events c.in-Part.n) (append-nil (cycles_of shapes)) (stops.0 [] (All-nil (λ c. IsSoundShape c.0))))

@@ -5,7 +5,7 @@ use Rattle.pw_graph.specs.History.{AreJoined, epoch_cycles, cycles_of}
 use Rattle.pw_graph.specs.SoundShape.{IsSoundShape}
 use Rattle.trace_check.specs.declared.following.Front.{Front}
 use Rattle.trace_check.specs.working.Fronts.{IsFrontOf, front_length}
-use Rattle.trace_check.proofs.EpochLemmas.{history_more, history_stops}
+use Rattle.trace_check.proofs.EpochLemmas.{history_more, history_stops, history_cause}
 use Rattle.trace_check.proofs.following.follow_epochs.Goals as goal
 
 pub follow_epoch-requires : goal.follow_epoch-requires
@@ -15,9 +15,14 @@ follow_epoch-requires c = subst (λ e. IsSoundShape e.shape) (sym c.epoch-item.i
 pub returns-in-Part-clause-front : goal.returns-in-Part-clause-front
 returns-in-Part-clause-front c =
     let e = c.epoch-item.result in
-    history_stops c.args.epochs.now c.loop-epoch.epoch-index e c.loop-epoch-test.true c.epoch-item.is c.args.events.now c.loop-epoch.at c.in-Part.n
-    c.requires c.loop-epoch.invariant.within c.loop-epoch.invariant.joined
-    (subst (λ (p : List Event × Front). IsFrontOf (epoch_cycles e.shape e.shape.cycles) p.0 p.1) (λ i. (c.split_at.ensures.back i, c.in-Part.is i)) c.in_ok-n.ensures.front)
+    let at = c.loop-epoch.at in let n = c.in-Part.n in
+    let front = subst (λ (p : List Event × Front). IsFrontOf (epoch_cycles e.shape e.shape.cycles) p.0 p.1) (λ i. (c.split_at.ensures.back i, c.in-Part.is i))
+    c.in_ok-n.ensures.front in (
+      history_stops c.args.epochs.now c.loop-epoch.epoch-index e c.loop-epoch-test.true c.epoch-item.is c.args.events.now at n
+          c.requires c.loop-epoch.invariant.within c.loop-epoch.invariant.joined front.0,
+      history_cause c.args.epochs.now c.loop-epoch.epoch-index e c.loop-epoch-test.true c.epoch-item.is c.args.events.now at n c.in-Part.cause
+          c.loop-epoch.invariant.within c.loop-epoch.invariant.joined front.1,
+    )
 
 pub loop-epoch-preserved : goal.loop-epoch-preserved
 loop-epoch-preserved c =
