@@ -26,7 +26,7 @@ loop-row-preserved c = let v = c.loop-row.invariant in let steps = c.in-Some.ens
           (λ j. (sym (map-append (λ (r : Listed Known). r.list) ys (row ∷ [])) j, sym pushed j))
           (one_loop plan waves f (map (λ (r : Listed Known). r.list) ys) c.loop-row.states row.list state v.loops_are
           (subst (λ (x : ℕ × List Known). IsLoopOf plan waves (nodes_of_loop f plan x.0) x.1 state)
-          (λ j. ((n ∙ sym (length-map ys (λ (r : Listed Known). r.list))) j, c.into_items.ensures j)) c.in_ok-loop_with.ensures.of));
+          (λ j. ((n ∙ sym (length-map ys (λ (r : Listed Known). r.list))) j, c.into_items-seats.ensures j)) c.in_ok-loop_with.ensures.of));
     }
 
 pub returns-clause-ready : goal.returns-clause-ready
