@@ -42,8 +42,8 @@ fn end_work<S: BoardSeat>(board: &Board, seat: &mut S, node: u32)
 
 /// The node has done its work, with all its outputs published and inputs returned. FINISHED is
 /// stored, then its Finish, and then a follower lowers each of its targets, and triggers each that
-/// it was the last to lower: the seat's `woke` has the bits of these. The driver's node tells
-/// nobody, since `begin` did so for the driver, and `woke` is then 0.
+/// it was the last to lower: the seat's `woke` has the bits of these. The driver's node lowers
+/// none, since `begin` did so for the driver, and `woke` is then 0.
 pub fn finish<S: BoardSeat>(board: &Board, seat: &mut S, node: u32)
     requires table { IsOn board.now (S.table seat.old) }
     requires ready { let p = layout board.now in

@@ -1,4 +1,4 @@
--- Each kind of step, as its call asks and tells.
+-- Each kind of step, as its call requires and ensures.
 use Rattle.std.proofs.Common.{arith, ◌≡◌, ℕ, ◌+◌, ◌-◌, ◌%◌, ◌^◌, ◌<◌, Bool, true, false, cond, eqb, length, get_or, refl, sym, ap}
 use Rattle.std.proofs.Common.{◌∙◌, subst, eq-eqb, ne_eqb}
 use prog.Atomic.{either}

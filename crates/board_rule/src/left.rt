@@ -4,7 +4,7 @@ ghost use Rattle.std.specs.Prelude.{◌≡◌, ◌+◌, ◌<◌, ◌≤◌, fals
 ghost use Rattle.std.specs.List.Sorted.{IsStrictlyIncreasing};
 ghost use Rattle.board_rule.specs.activation.Left.{left_of, untold};
 
-// 1 where the node at an index has yet to tell.
+// 1 where the node at an index has not signalled yet.
 fn untold_at(told: &[bool], m: usize) -> usize
     requires { m < length told.now }
     ensures is { result ≡ untold told.now m }
@@ -13,8 +13,8 @@ fn untold_at(told: &[bool], m: usize) -> usize
     if told[m] { 0 } else { 1 }
 }
 
-/// The count for a list of dependencies, of which `told` says by index which have told. Takes no
-/// memory.
+/// The count for a list of dependencies, of which `told` says by index which have signalled. Takes
+/// no memory.
 pub fn left_of(dependencies: &[usize], told: &[bool]) -> usize
     requires { All (λ m. m < length told.now) dependencies.now }
     ensures { result ≡ left_of (untold told.now) dependencies.now }
@@ -26,15 +26,15 @@ pub fn left_of(dependencies: &[usize], told: &[bool]) -> usize
     left
 }
 
-/// When nobody has told, the count is the required count.
+/// While nobody has signalled, the count is the required count.
 pub fn left_at_start(dependencies: &[usize]) -> usize
     ensures { result ≡ left_of (λ _. 1) dependencies.now }
 {
     dependencies.len()
 }
 
-/// The node `m` tells. Of each node that depends on it the count falls by one, of all others it
-/// stays.
+/// The node `m` signals its targets: of each node that depends on it the count falls by one, of all
+/// others it stays.
 pub fn tell(_dependencies: &[usize], told: &mut [bool], m: usize)
     requires ascend { IsStrictlyIncreasing _dependencies.now }
     requires inside { m < length told.old }

@@ -1,4 +1,4 @@
--- What a follower's phase means after it has told a target.
+-- What a follower's phase means after it has signalled a target.
 use Rattle.std.proofs.Common.{◌≡◌, ◌≢◌, ℕ, suc, ◌+◌, ◌-◌, ◌*◌, ◌<◌, ◌≤◌, Bool, true, false, true≢false, cond, eqb, List}
 use Rattle.std.proofs.Common.{[], ◌∷◌, take, drop, length, get_or, refl, sym, ap, ◌∙◌, arith, eq-eqb, ne_eqb, eqb-true}
 use Rattle.std.proofs.lemmas.List.{drop_more, drop_all}
