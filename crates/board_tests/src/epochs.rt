@@ -5,7 +5,7 @@ ghost use Rattle.board_rule.specs.Layout.{first};
 ghost use Rattle.board_rule.specs.OnBoard.{IsOn, layout, table_of};
 ghost use Rattle.io_areas.specs.PooledBoard.{IsPooledBoard};
 ghost use Rattle.data_loop.specs.Driving.{HasNoLinkIn};
-ghost use Rattle.data_loop.specs.LoopDriver.{DrivesFrom, IsTied};
+ghost use Rattle.data_loop.specs.LoopDriver.{DrivesFrom, HasLedSoFar};
 ghost use Rattle.data_loop.specs.LoopsOnBoards.{IsOnBoard, IsAtEnd};
 ghost use Rattle.data_loop.specs.LoopWay.{IsDriverWay};
 ghost use Rattle.driver_cycle.specs.Leading.{IsLeading, IsBetween, IsWaiting, IsDriving};
@@ -90,11 +90,11 @@ fn lead_open(
     checked: &mut bool,
     ticker: &mut Every,
 ) -> bool
-    requires leads { IsLeading own.old.score own.old.epoch board.now seat.old }
+    requires leads { IsLeading own.old.run_model own.old.epoch board.now seat.old }
     requires waits { IsWaiting (layout board.now) seat.old.knows }
     requires stands { IsOnBoard (layout board.now) (table_of board.now) own.old }
     requires driver { DrivesFrom (layout board.now) own.old }
-    requires tied { IsTied (layout board.now) own.old seat.old.knows }
+    requires led_so_far { HasLedSoFar (layout board.now) own.old seat.old.knows }
     requires checked { checked.old ≡ seat.old.knows.lead.checked }
     ensures driving { IsDriving (layout board.now) seat.new.knows (not result) }
 {
@@ -119,7 +119,7 @@ fn run_open<R: Wait>(
     ways: &Ways,
     way: &mut Way,
 )
-    requires leads { IsLeading own.old.score own.old.epoch board.now seat.old }
+    requires leads { IsLeading own.old.run_model own.old.epoch board.now seat.old }
     requires between { IsBetween (layout board.now) seat.old.knows }
     requires stands { IsOnBoard (layout board.now) (table_of board.now) own.old }
     requires driver { DrivesFrom (layout board.now) own.old }

@@ -7,9 +7,9 @@ ghost use Rattle.cycle_model.specs.working.UnderWay.{IsUnderWay, IsCycle};
 ghost use Rattle.cycle_model.specs.working.NodeOrder.{IsOrder};
 ghost use Rattle.cycle_model.specs.Renderable.{IsRenderable};
 
+use crate::one_cycle::{release, work};
 use crate::order::order_of;
 use crate::received::{Given, Received, Setting};
-use crate::working::{release, work};
 use pw_graph::{Epoch, Plan};
 use pw_lists::{Items, Memory};
 use std::alloc::Global;

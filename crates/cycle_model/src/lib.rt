@@ -6,11 +6,11 @@ mod cycles;
 mod epochs;
 mod inputs;
 mod kinds;
+mod one_cycle;
 mod order;
 mod received;
 mod reference;
 mod waves;
-mod working;
 
 pub use received::Received;
 pub use reference::render;

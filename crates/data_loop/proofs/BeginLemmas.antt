@@ -34,15 +34,15 @@ use Rattle.data_loop.specs.declared.own_pools.OwnPools.{OwnPools}
 use Rattle.data_loop.specs.OwnPools.{is_among, own_pools, own_places, queue_of}
 use Rattle.data_loop.specs.declared.loop_state.LoopState.{LoopState}
 use Rattle.data_loop.specs.declared.member.Member.{Member}
-use Rattle.data_loop.specs.declared.stage.Stage.{Stage}
+use Rattle.data_loop.specs.declared.epoch_state.EpochState.{EpochState}
 use Rattle.data_loop.specs.turns.Turning.{IsEquipped, AreEven, IsAtRest}
-use Rattle.data_loop.specs.Fronts.{IsFront}
+use Rattle.data_loop.specs.Progress.{IsProgressOf}
 use Rattle.data_loop.specs.Members.{follows, leads}
-use Rattle.data_loop.specs.StageParts.{IsStageOf}
-use Rattle.data_loop.specs.Stages.{StandsAt, AreApart}
-use Rattle.data_loop.specs.Loops.{plan_of, HasStage, IsBetweenEpochs, node_at}
+use Rattle.data_loop.specs.EpochStateParts.{IsEpochStateOf}
+use Rattle.data_loop.specs.EpochStates.{StandsAt, AreApart}
+use Rattle.data_loop.specs.Loops.{plan_of, HasEpochState, IsBetweenEpochs, node_at}
 use Rattle.data_loop.specs.LoopsOnBoards.{IsFirstSeat, IsOnBoard}
-use Rattle.data_loop.proofs.FrontLemmas.{front_first}
+use Rattle.data_loop.proofs.ProgressLemmas.{progress_first}
 use Rattle.data_loop.proofs.MemberLemmas.{ComesFrom, comes_from, all_apart}
 use Rattle.data_loop.proofs.OwnPoolsLemmas.{has_places, shape_at, one_place, queue_at}
 use Rattle.data_loop.proofs.PlayLemmas.{any_from}
@@ -91,18 +91,18 @@ follower_works e n role = let parts = and_parts (not (e.shape.driver == n)) (tak
     and_from (takes_part e n) _ parts.1 (or_left (not (e.shape.driver == n)) _ parts.0)
 
 module _ (s : LoopState) (bt : IsBetweenEpochs s) (p : BoardLayout) (t : TableId) (e : Epoch) (at : IsEpoch (plan_of s) s.epoch e)
-    (shape : p.shape ≡ e.shape) (g : Stage) (here : HasStage s s.epoch g)
-    (seat : IsFirstSeat (plan_of s) s.score.waves.value s.epoch s.nodes p t g.seat) where
+    (shape : p.shape ≡ e.shape) (g : EpochState) (here : HasEpochState s s.epoch g)
+    (seat : IsFirstSeat (plan_of s) s.run_model.waves.value s.epoch s.nodes p t g.seat) where
   abbrev plan : Plan
   plan = plan_of s
 
   abbrev expect : Samples
-  expect = expected_samples plan s.score.waves.value s.epoch
+  expect = expected_samples plan s.run_model.waves.value s.epoch
 
   abbrev u : View
   u = loop_view p expect seat.number
 
-  parts : IsStageOf plan s.nodes s.epoch e g
+  parts : IsEpochStateOf plan s.nodes s.epoch e g
   parts = bt.loop.parts s.epoch e g at here
 
   knows_is : g.seat.knows ≡ u
@@ -152,20 +152,20 @@ module _ (s : LoopState) (bt : IsBetweenEpochs s) (p : BoardLayout) (t : TableId
         begins_even p fits expect seat.number g.own (p.index m.node) inside (own_free m f),
       )
 
-  stands : (m : Member) → Contains g.members m → StandsAt s.score s.epoch p g.seat.knows s.states.items m
+  stands : (m : Member) → Contains g.members m → StandsAt s.run_model s.epoch p g.seat.knows s.states.items m
   stands m c = let f = from m c in let inside = there m f in let low = f.low in let long = bt.loop.states in
       let next : (node_of g.seat.knows (p.index m.node)).next ≡ first p = ap (λ (x : View). (node_of x (p.index m.node)).next) knows_is
       ∙ next_is p fits expect seat.number (p.index m.node) inside in
       let cycle : first_of plan s.epoch ≡ (node_of g.seat.knows (p.index m.node)).next = first_is ∙ ap (λ (x : Shape). x.first) (sym shape) ∙ sym next in (
         omega (arith, low, long),
-        λ d. subst (λ (x : ℕ × ℕ). IsNodeState s.score s.epoch x.0 x.1 (get_or s.states.items m.at d)) (λ i. (cycle i, f.node i)) (bt.states m.at low d),
+        λ d. subst (λ (x : ℕ × ℕ). IsNodeState s.run_model s.epoch x.0 x.1 (get_or s.states.items m.at d)) (λ i. (cycle i, f.node i)) (bt.states m.at low d),
       )
 
   -- THE BEGINNING of an epoch
   pub begins : IsOnBoard p t s
   begins = record {
     loop = bt.loop;
-    stage = g;
+    epoch_state = g;
     here = here;
     stands = record {
       sound = bt.loop.sound;
@@ -174,7 +174,7 @@ module _ (s : LoopState) (bt : IsBetweenEpochs s) (p : BoardLayout) (t : TableId
       at = at;
       shape = shape;
       table = ap (λ (k : Known). k.table) seat.is;
-      expect = ap (λ (x : View). x.expect) knows_is ∙ expected_is plan s.score.waves.value s.epoch e at;
+      expect = ap (λ (x : View). x.expect) knows_is ∙ expected_is plan s.run_model.waves.value s.epoch e at;
       equipped = subst (λ (x : View). IsEquipped p x g.own) (sym knows_is) record {
         plain = seat.plain;
         places = has_places s.nodes (pools_of p.shape) g.own places_are shapes_are;
@@ -193,8 +193,8 @@ module _ (s : LoopState) (bt : IsBetweenEpochs s) (p : BoardLayout) (t : TableId
       rests = λ k d low. rests (get_or g.members k d) (k, low, get_or_default g.members k (get_or g.members k d) d low);
       each = λ k d low. stands (get_or g.members k d) (k, low, get_or_default g.members k (get_or g.members k d) d low);
       room = (bt.loop.room s.epoch g here).0;
-      front = subst (IsFront p g.seat.knows g.members) (sym (bt.unbegun s.epoch e g (omega arith) at here).1)
-          (front_first p g.seat.knows g.members (λ k d low. let m : Member = get_or g.members k d in
+      progress = subst (IsProgressOf p g.seat.knows g.members) (sym (bt.unbegun s.epoch e g (omega arith) at here).1)
+          (progress_first p g.seat.knows g.members (λ k d low. let m : Member = get_or g.members k d in
           ap (λ (x : View). (node_of x (p.index m.node)).next) knows_is
           ∙ next_is p fits expect seat.number (p.index m.node) (there m (from m (k, low, get_or_default g.members k m d low)))));
     };
@@ -203,7 +203,7 @@ module _ (s : LoopState) (bt : IsBetweenEpochs s) (p : BoardLayout) (t : TableId
     others = λ j less none d.
         let still : e.shape.first + cond (leads e (node_at s j)) s.led 0 ≡ first_of plan s.epoch = ap (λ n. e.shape.first + cond (leads e (node_at s j)) n 0) bt.none_led
         ∙ zero_both (leads e (node_at s j)) e.shape.first ∙ sym first_is in
-        subst (λ c. IsNodeState s.score s.epoch c (node_at s j) (get_or s.states.items j d)) (sym still) (bt.states j less d);
+        subst (λ c. IsNodeState s.run_model s.epoch c (node_at s j) (get_or s.states.items j d)) (sym still) (bt.states j less d);
   }
     where
       zero_both : (b : Bool) (n : ℕ) → n + cond b 0 0 ≡ n

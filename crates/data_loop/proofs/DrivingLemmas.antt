@@ -20,7 +20,7 @@ use Rattle.board_rule.proofs.buffers.HolderLemmas.{link_there}
 use Rattle.activation_words.specs.Calls.{started, worked, HasFinished}
 use Rattle.io_areas.specs.PooledBoard.{IsPooledBoard}
 use Rattle.io_areas.specs.Ends.{IsReadUpTo}
-use Rattle.node_progress.specs.declared.score.Score.{Score}
+use Rattle.node_progress.specs.declared.run_model.RunModel.{RunModel}
 use Rattle.node_progress.specs.Standing.{wide_at}
 use Rattle.node_progress.proofs.FitsOutputLemmas.{now_is}
 use Rattle.data_loop.specs.declared.inputs.Input.{Input}
@@ -131,35 +131,35 @@ module _ (board_shape : BoardShape) (plain : IsPooledBoard (layout_of board_shap
       }
 
 -- the member of the driver's node fits the board
-module _ (score : Score) (p : BoardLayout) (pooled : IsPooledBoard p) (v : View) (k c : ℕ) (m : Member)
-    (x : IsDriverPlayer score p v k c m) where
+module _ (run_model : RunModel) (p : BoardLayout) (pooled : IsPooledBoard p) (v : View) (k c : ℕ) (m : Member)
+    (x : IsDriverPlayer run_model p v k c m) where
   pub inputs_are : m.inputs ≡ inputs_of p.shape m.node
   inputs_are = ap (λ (y : Member). y.inputs) x.member ∙ ap (λ (s : Shape). inputs_of s m.node) (sym x.shape)
 
   pub few : length m.inputs ≤ 256
   few = subst (λ (l : List Input). length l ≤ 256) (sym (ap (λ (y : Member). y.inputs) x.member))
-      (few_inputs score k c m.node x.works)
+      (few_inputs run_model k c m.node x.works)
 
-  abbrev first_is : m.first_width ≡ input_width score.plan.value x.works.epoch m.node 0
+  abbrev first_is : m.first_width ≡ input_width run_model.plan.value x.works.epoch m.node 0
   first_is = ap (λ (y : Member). y.first_width) x.member
 
-  abbrev second_is : m.second_width ≡ input_width score.plan.value x.works.epoch m.node 1
+  abbrev second_is : m.second_width ≡ input_width run_model.plan.value x.works.epoch m.node 1
   second_is = ap (λ (y : Member). y.second_width) x.member
 
-  wide : (i : ℕ) → input_width score.plan.value x.works.epoch m.node i ≡ wide_at score.plan.value c m.node i
-  wide i = ap (λ n. cond (nat_lt i (input_count (kind_at score.plan.value m.node))) (score.plan.value.quantum * n) 0)
-      (sym (now_is score k c m.node x.works i))
+  wide : (i : ℕ) → input_width run_model.plan.value x.works.epoch m.node i ≡ wide_at run_model.plan.value c m.node i
+  wide i = ap (λ n. cond (nat_lt i (input_count (kind_at run_model.plan.value m.node))) (run_model.plan.value.quantum * n) 0)
+      (sym (now_is run_model k c m.node x.works i))
 
-  pub first_wide : m.first_width ≡ wide_at score.plan.value c m.node 0
+  pub first_wide : m.first_width ≡ wide_at run_model.plan.value c m.node 0
   first_wide = first_is ∙ wide 0
 
-  pub second_wide : m.second_width ≡ wide_at score.plan.value c m.node 1
+  pub second_wide : m.second_width ≡ wide_at run_model.plan.value c m.node 1
   second_wide = second_is ∙ wide 1
 
   pub long : AreLong p m.first_width m.inputs
   long = subst (λ (y : ℕ × List Input). AreLong p y.0 y.1) (λ i. (sym first_is i, sym inputs_are i))
-      (all_long score k c m.node x.works p pooled x.shape)
+      (all_long run_model k c m.node x.works p pooled x.shape)
 
   pub second_fits : IsWide m.first_width m.second_width m.inputs
   second_fits = subst (λ (y : ℕ × ℕ × List Input). IsWide y.0 y.1 y.2) (λ i. (sym first_is i, sym second_is i, sym inputs_are i))
-      (all_wide score k c m.node x.works p pooled x.shape)
+      (all_wide run_model k c m.node x.works p pooled x.shape)

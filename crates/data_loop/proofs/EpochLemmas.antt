@@ -24,11 +24,11 @@ use Rattle.node_progress.proofs.IdleLemmas.{idle_through}
 use Rattle.node_progress.proofs.RestartsLemmas.{first_next}
 use Rattle.data_loop.specs.declared.loop_state.LoopState.{LoopState}
 use Rattle.data_loop.specs.declared.member.Member.{Member}
-use Rattle.data_loop.specs.declared.stage.Stage.{Stage}
+use Rattle.data_loop.specs.declared.epoch_state.EpochState.{EpochState}
 use Rattle.data_loop.specs.LoopTurn.{next_in}
 use Rattle.data_loop.specs.Members.{member_of, follows, leads}
-use Rattle.data_loop.specs.StageParts.{restarts_in, restart_at}
-use Rattle.data_loop.specs.Stages.{StandsAt}
+use Rattle.data_loop.specs.EpochStateParts.{restarts_in, restart_at}
+use Rattle.data_loop.specs.EpochStates.{StandsAt}
 use Rattle.data_loop.specs.Loops.{plan_of, node_at, StateIs, IsBetweenEpochs}
 use Rattle.data_loop.specs.LoopsOnBoards.{stands_at, IsOnBoard, IsAtEnd}
 use Rattle.data_loop.proofs.MemberLemmas.{has_it}
@@ -68,30 +68,30 @@ module _ (p : BoardLayout) (t : TableId) (s : LoopState) (end : IsAtEnd p t s) w
   follower_done : (j : ℕ) → j < length s.nodes → follows e (node_at s j) ≡ true → StateIs s after j
   follower_done j less role =
       let m : Member = member_of plan e (node_at s j) j in
-      let own : Contains on.stage.members m = subst (λ (l : List Member). Contains l m) (sym (parts p t s on).members)
+      let own : Contains on.epoch_state.members m = subst (λ (l : List Member). Contains l m) (sym (parts p t s on).members)
       (has_it plan s.nodes e false j less role) in
-      let stands : StandsAt s.score s.epoch p on.stage.seat.knows s.states.items m =
-      All-contains (StandsAt s.score s.epoch p on.stage.seat.knows s.states.items) on.stage.members m on.stands.each own in
-      let ended : next_in p on.stage.seat.knows (node_at s j) ≡ last p =
-      All-contains (λ (x : Member). next_in p on.stage.seat.knows x.node ≡ last p) on.stage.members m end.ended own in
-      λ d. subst (λ c. IsNodeState s.score s.epoch c (node_at s j) (get_or s.states.items j d)) (ended ∙ last_is) (stands.1 d)
+      let stands : StandsAt s.run_model s.epoch p on.epoch_state.seat.knows s.states.items m =
+      All-contains (StandsAt s.run_model s.epoch p on.epoch_state.seat.knows s.states.items) on.epoch_state.members m on.stands.each own in
+      let ended : next_in p on.epoch_state.seat.knows (node_at s j) ≡ last p =
+      All-contains (λ (x : Member). next_in p on.epoch_state.seat.knows x.node ≡ last p) on.epoch_state.members m end.ended own in
+      λ d. subst (λ c. IsNodeState s.run_model s.epoch c (node_at s j) (get_or s.states.items j d)) (ended ∙ last_is) (stands.1 d)
 
   driver_done : (j : ℕ) → j < length s.nodes → follows e (node_at s j) ≡ false → leads e (node_at s j) ≡ true → StateIs s after j
   driver_done j less none role =
       let m : Member = member_of plan e (node_at s j) j in
-      let own : Contains on.stage.driver m = subst (λ (l : List Member). Contains l m) (sym (parts p t s on).driver)
+      let own : Contains on.epoch_state.driver m = subst (λ (l : List Member). Contains l m) (sym (parts p t s on).driver)
       (has_it plan s.nodes e true j less role) in
-      let some : on.stage.driver ≢ [] = λ is. let low = own.1 in let zero = ap (λ (l : List Member). length l) is in omega (arith, low, zero) in
+      let some : on.epoch_state.driver ≢ [] = λ is. let low = own.1 in let zero = ap (λ (l : List Member). length l) is in omega (arith, low, zero) in
       let led = end.led some ∙ ap (λ (x : Shape). x.cycles) on.stands.shape in
-      λ d. subst (λ c. IsNodeState s.score s.epoch c (node_at s j) (get_or s.states.items j d))
+      λ d. subst (λ c. IsNodeState s.run_model s.epoch c (node_at s j) (get_or s.states.items j d))
       (ap (λ b. e.shape.first + cond b s.led 0) role ∙ ap (λ n. e.shape.first + n) led) (on.others j less none d)
 
   idle_done : (j : ℕ) → j < length s.nodes → follows e (node_at s j) ≡ false → leads e (node_at s j) ≡ false → StateIs s after j
   idle_done j less none off =
       let first : stands_at s e j ≡ e.shape.first = ap (λ b. e.shape.first + cond b s.led 0) off ∙ (let z : e.shape.first + 0 ≡ e.shape.first = omega arith in z) in
-      λ d. idle_through s.score s.epoch e (node_at s j) on.loop.sound on.loop.waves (place j less) on.stands.at
+      λ d. idle_through s.run_model s.epoch e (node_at s j) on.loop.sound on.loop.waves (place j less) on.stands.at
       (off_duty e (node_at s j) none off) (get_or s.states.items j d)
-      (subst (λ c. IsNodeState s.score s.epoch c (node_at s j) (get_or s.states.items j d)) first (on.others j less none d))
+      (subst (λ c. IsNodeState s.run_model s.epoch c (node_at s j) (get_or s.states.items j d)) first (on.others j less none d))
 
   pub all_done : (j : ℕ) → j < length s.nodes → StateIs s after j
   all_done j less = ⊎_elim
@@ -103,7 +103,7 @@ module _ (p : BoardLayout) (t : TableId) (s : LoopState) (end : IsAtEnd p t s) w
       (cases_Bool (follows e (node_at s j)))
 
   -- the end of the epoch, as a node has it
-  end_of : (j : ℕ) → j < length s.nodes → IsEndOf s.score s.epoch after (node_at s j)
+  end_of : (j : ℕ) → j < length s.nodes → IsEndOf s.run_model s.epoch after (node_at s j)
   end_of j less = record {
     sound = on.loop.sound;
     waves = on.loop.waves;
@@ -114,38 +114,38 @@ module _ (p : BoardLayout) (t : TableId) (s : LoopState) (end : IsAtEnd p t s) w
   }
 
   next_is : (j : ℕ) → j < length s.nodes → next_first plan s.epoch ≡ after
-  next_is j less = first_next s.score s.epoch after (node_at s j) (end_of j less)
+  next_is j less = first_next s.run_model s.epoch after (node_at s j) (end_of j less)
 
-  pub ends_so : (j : ℕ) → j < length s.nodes → IsEndOf s.score s.epoch (next_first plan s.epoch) (node_at s j)
-  ends_so j less = subst (λ c. IsEndOf s.score s.epoch c (node_at s j)) (sym (next_is j less)) (end_of j less)
+  pub ends_so : (j : ℕ) → j < length s.nodes → IsEndOf s.run_model s.epoch (next_first plan s.epoch) (node_at s j)
+  ends_so j less = subst (λ c. IsEndOf s.run_model s.epoch c (node_at s j)) (sym (next_is j less)) (end_of j less)
 
   pub states_so : (j : ℕ) (d : NodeState) → j < length s.nodes
-      → IsNodeState s.score s.epoch (next_first plan s.epoch) (node_at s j) (get_or s.states.items j d)
-  states_so j d less = subst (λ c. IsNodeState s.score s.epoch c (node_at s j) (get_or s.states.items j d)) (sym (next_is j less)) (all_done j less d)
+      → IsNodeState s.run_model s.epoch (next_first plan s.epoch) (node_at s j) (get_or s.states.items j d)
+  states_so j d less = subst (λ c. IsNodeState s.run_model s.epoch c (node_at s j) (get_or s.states.items j d)) (sym (next_is j less)) (all_done j less d)
 
-  -- what the next epoch's stage says of a node, or of no node
+  -- what the next epoch's state says of a node, or of no node
   pub restarts_so : (next : ℕ) → next ≡ suc s.epoch → (j : ℕ) → j < length s.nodes
-      → restart_at (restarts_in s.stages.items next) j ≡ restart_of plan (suc s.epoch) (node_at s j)
-  restarts_so next is j less = ap (λ k. restart_at (restarts_in s.stages.items k) j) is
-      ∙ by (slice_get s.stages.items (suc s.epoch)) (slice_get plan.epochs (suc s.epoch)) refl refl
+      → restart_at (restarts_in s.epoch_states.items next) j ≡ restart_of plan (suc s.epoch) (node_at s j)
+  restarts_so next is j less = ap (λ k. restart_at (restarts_in s.epoch_states.items k) j) is
+      ∙ by (slice_get s.epoch_states.items (suc s.epoch)) (slice_get plan.epochs (suc s.epoch)) refl refl
     where
-      by : (og : Option Stage) (oe : Option Epoch) → slice_get s.stages.items (suc s.epoch) ≡ og → slice_get plan.epochs (suc s.epoch) ≡ oe
-          → restart_at (restarts_in s.stages.items (suc s.epoch)) j ≡ restart_of plan (suc s.epoch) (node_at s j)
-      by None None g x = ap (λ o. restart_at (unwrap_or (option_map (λ (x : Stage). x.restarts) o) []) j) g
+      by : (og : Option EpochState) (oe : Option Epoch) → slice_get s.epoch_states.items (suc s.epoch) ≡ og → slice_get plan.epochs (suc s.epoch) ≡ oe
+          → restart_at (restarts_in s.epoch_states.items (suc s.epoch)) j ≡ restart_of plan (suc s.epoch) (node_at s j)
+      by None None g x = ap (λ o. restart_at (unwrap_or (option_map (λ (x : EpochState). x.restarts) o) []) j) g
           ∙ sym (ap (λ o. option_map (λ (f : Fresh). f.channels) (find (λ f. f.node == node_at s j) (listed (λ y. y.fresh) o))) x)
-      by (Some h) (Some y) g x = ap (λ o. restart_at (unwrap_or (option_map (λ (x : Stage). x.restarts) o) []) j) g
+      by (Some h) (Some y) g x = ap (λ o. restart_at (unwrap_or (option_map (λ (x : EpochState). x.restarts) o) []) j) g
           ∙ unwrap_or-slice_get h.restarts j None
           ∙ ap (λ l. get_or l j None) (on.loop.parts (suc s.epoch) y h x g).restarts
           ∙ get_or-map (restart_of plan (suc s.epoch)) s.nodes j 0 None less
-      by (Some h) None g x = let n = on.loop.stages in let a = slice_get_within s.stages.items (suc s.epoch) h g in
+      by (Some h) None g x = let n = on.loop.epoch_states in let a = slice_get_within s.epoch_states.items (suc s.epoch) h g in
           absurd (none-some _ (sym (sym (slice_get-get_or plan.epochs (suc s.epoch) e (omega (arith, n, a))) ∙ x)))
-      by None (Some y) g x = let n = on.loop.stages in let a = slice_get_within plan.epochs (suc s.epoch) y x in
-          absurd (none-some _ (sym (sym (slice_get-get_or s.stages.items (suc s.epoch) on.stage (omega (arith, n, a))) ∙ g)))
+      by None (Some y) g x = let n = on.loop.epoch_states in let a = slice_get_within plan.epochs (suc s.epoch) y x in
+          absurd (none-some _ (sym (sym (slice_get-get_or s.epoch_states.items (suc s.epoch) on.epoch_state (omega (arith, n, a))) ∙ g)))
 
   -- the loop between the epochs
   pub between : (ss : Vec NodeState _) → length ss.items ≡ length s.states.items
       → ((j : ℕ) (d : NodeState) → j < length s.nodes
-      → IsNodeState s.score (suc s.epoch) (next_first plan s.epoch) (node_at s j) (get_or ss.items j d))
+      → IsNodeState s.run_model (suc s.epoch) (next_first plan s.epoch) (node_at s j) (get_or ss.items j d))
       → (next : ℕ) → next ≡ suc s.epoch → IsBetweenEpochs (record s { states = ss; epoch = next; led = 0; woke = 0 })
   between ss long states next is = record {
     loop = record {
@@ -154,7 +154,7 @@ module _ (p : BoardLayout) (t : TableId) (s : LoopState) (end : IsAtEnd p t s) w
       ascend = on.loop.ascend;
       places = on.loop.places;
       states = long ∙ on.loop.states;
-      stages = on.loop.stages;
+      epoch_states = on.loop.epoch_states;
       parts = on.loop.parts;
       room = on.loop.room;
       found_room = on.loop.found_room;
@@ -165,5 +165,5 @@ module _ (p : BoardLayout) (t : TableId) (s : LoopState) (end : IsAtEnd p t s) w
     some = let here = slice_get_within plan.epochs s.epoch e on.stands.at in omega (arith, here, is);
     none_led = refl;
     unbegun = λ i x g past at here. on.later i x g (omega (arith, past, is)) at here;
-    states = λ j less d. subst (λ k. IsNodeState s.score k (first_of plan k) (node_at s j) (get_or ss.items j d)) (sym is) (states j d less);
+    states = λ j less d. subst (λ k. IsNodeState s.run_model k (first_of plan k) (node_at s j) (get_or ss.items j d)) (sym is) (states j d less);
   }

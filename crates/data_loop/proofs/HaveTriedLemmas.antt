@@ -12,7 +12,7 @@ use Rattle.board_rule.specs.Layout.{BoardLayout, nodes, last}
 use Rattle.board_rule.specs.Steps.{tried}
 use Rattle.io_areas.specs.PooledBoard.{IsPooledBoard}
 use Rattle.data_loop.specs.declared.member.Member.{Member}
-use Rattle.data_loop.specs.declared.stage.Stage.{Stage}
+use Rattle.data_loop.specs.declared.epoch_state.EpochState.{EpochState}
 use Rattle.data_loop.specs.turns.Turning.{IsAtRest, HasTurned}
 use Rattle.board_rule.specs.declared.view.NodeView.{NodeView}
 use Rattle.data_loop.specs.declared.own_pools.OwnPools.{OwnPools}
@@ -90,7 +90,7 @@ module _ (p : BoardLayout) (v : View) (done : List Member) (m : Member) (found :
       }
 
   -- one that ran
-  pub one_ran : (plain : IsPooledBoard p) → p.index m.node < nodes p → (g h : Stage) → g.seat.knows ≡ v
+  pub one_ran : (plain : IsPooledBoard p) → p.index m.node < nodes p → (g h : EpochState) → g.seat.knows ≡ v
       → (order rest : List Member) → order ≡ done ++ m ∷ rest
       → (free new : OwnPools) → All (λ x. IsAtRest p w free (p.index x.node)) g.members
       → HasTurned p w free (p.index m.node) h.seat.knows new → HasRun p g order m.node found h

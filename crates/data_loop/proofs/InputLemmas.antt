@@ -32,8 +32,8 @@ use Rattle.io_areas.specs.PooledBoard.{IsPooledBoard}
 use Rattle.io_areas.specs.Quanta.{quantum_of}
 use Rattle.io_areas.specs.Reading.{stamp_brought, brought_in}
 use Rattle.data_loop.specs.declared.inputs.Input.{Input}
-use Rattle.node_progress.specs.declared.score.Score.{Score}
-use Rattle.node_progress.specs.Standing.{port_at, comes_in, wide_at}
+use Rattle.node_progress.specs.declared.run_model.RunModel.{RunModel}
+use Rattle.node_progress.specs.Standing.{port_at, receives, wide_at}
 use Rattle.data_loop.specs.working.Inputs.{IsZero, row_of, first_rows, second_rows}
 use Rattle.data_loop.specs.Gathering.{input_from, ReadsInputs}
 use Rattle.data_loop.proofs.turns.EndsLemmas.{of_pool}
@@ -101,13 +101,13 @@ pool_row plan waves p e c q shape low high inside =
     ∙ ap (λ (s : Shape). get_or (map (λ x. outputs plan waves c x.port) (pools_of s)) q []) (sym shape)
     ∙ get_or-map (λ (x : PoolShape). outputs plan waves c x.port) (pools_of p.shape) q no_pool [] inside
 
-module _ (b : Bool) (score : Score) (p : BoardLayout) (pooled : IsPooledBoard p) (v : View) (c n : ℕ) (inputs : List Input)
-    (wide_a wide_b : ℕ) (h : ReadsInputs b score p v c n inputs wide_a wide_b) where
+module _ (b : Bool) (run_model : RunModel) (p : BoardLayout) (pooled : IsPooledBoard p) (v : View) (c n : ℕ) (inputs : List Input)
+    (wide_a wide_b : ℕ) (h : ReadsInputs b run_model p v c n inputs wide_a wide_b) where
   abbrev plan : Plan
-  plan = score.plan.value
+  plan = run_model.plan.value
 
   abbrev out : Outputs
-  out = outputs plan score.waves.value
+  out = outputs plan run_model.waves.value
 
   -- a link that is read
   module _ (l : ℕ) (low : l < length p.shape.links) where
@@ -133,11 +133,11 @@ module _ (b : Bool) (score : Score) (p : BoardLayout) (pooled : IsPooledBoard p)
 
     -- what its pool gives in a cycle
     gave : (k : ℕ) → first p ≤ k → k < last p
-        → samples_in p (epoch_rows plan score.waves.value h.epoch) k pool ≡ out k link.from
-    gave k low high = pool_row plan score.waves.value p h.epoch k pool h.board.shape low high pool_in ∙ ap (out k) from
+        → samples_in p (epoch_rows plan run_model.waves.value h.epoch) k pool ≡ out k link.from
+    gave k low high = pool_row plan run_model.waves.value p h.epoch k pool h.board.shape low high pool_in ∙ ap (out k) from
 
     abbrev row : ℕ → List ℤ
-    row k = samples_in p (epoch_rows plan score.waves.value h.epoch) k pool
+    row k = samples_in p (epoch_rows plan run_model.waves.value h.epoch) k pool
 
     abbrev stamp : ℕ
     stamp = stamp_brought p l c
@@ -146,13 +146,13 @@ module _ (b : Bool) (score : Score) (p : BoardLayout) (pooled : IsPooledBoard p)
     by_cycle = if c == first_at plan c then silence (plan.quantum * link.channels) else out (c - 1) link.from
 
     -- it is received by the board as by the cycle function, a cycle late where it is delayed
-    brought_is : brought_in p (epoch_rows plan score.waves.value h.epoch) l c ≡ brought plan out c link
+    brought_is : brought_in p (epoch_rows plan run_model.waves.value h.epoch) l c ≡ brought plan out c link
     brought_is = ⊎_elim late prompt (cases_Bool link.delayed)
       where
         inside : (first p ≤ c) × (c < last p)
         inside = h.inside
 
-        prompt : link.delayed ≡ false → brought_in p (epoch_rows plan score.waves.value h.epoch) l c ≡ brought plan out c link
+        prompt : link.delayed ≡ false → brought_in p (epoch_rows plan run_model.waves.value h.epoch) l c ≡ brought plan out c link
         prompt d =
             let none : delay_at p l ≡ 0 = delay ∙ cond-false link.delayed 1 0 d in
             let on : stamp - 1 ≡ c = omega (arith, none) in
@@ -161,7 +161,7 @@ module _ (b : Bool) (score : Score) (p : BoardLayout) (pooled : IsPooledBoard p)
             ∙ ap row on ∙ gave c inside.0 inside.1
             ∙ sym (cond-false link.delayed by_cycle (out c link.from) d)
 
-        late : link.delayed ≡ true → brought_in p (epoch_rows plan score.waves.value h.epoch) l c ≡ brought plan out c link
+        late : link.delayed ≡ true → brought_in p (epoch_rows plan run_model.waves.value h.epoch) l c ≡ brought plan out c link
         late d =
             let one : delay_at p l ≡ 1 = delay ∙ cond-true link.delayed 1 0 d in
             let at : stamp ≡ c = omega (arith, one) in
@@ -208,7 +208,7 @@ module _ (b : Bool) (score : Score) (p : BoardLayout) (pooled : IsPooledBoard p)
   -- and of an input that the kind has not there is nothing
   comes_by : (i : ℕ) (rows : List (List ℤ)) → rows ≡ map (brought plan out c) (filter (λ l. is_same_port l.to (port_at n i)) p.shape.links)
       → (zeros got : List ℤ) → length zeros ≡ wide_at plan c n i → All IsZero zeros → got ≡ map clamped (fold summed zeros rows)
-      → length got ≡ length zeros → got ≡ comes_in score c n i
+      → length got ≡ length zeros → got ≡ receives run_model c n i
   comes_by i rows are zeros got wide z is long = ⊎_elim
       (λ (t : nat_lt i (input_count (kind_at plan n)) ≡ true).
       is ∙ input_is i rows are zeros (wide ∙ cond-true (nat_lt i (input_count (kind_at plan n))) (plan.quantum * channels_at plan c (port_at n i)) 0 t) z
@@ -219,13 +219,13 @@ module _ (b : Bool) (score : Score) (p : BoardLayout) (pooled : IsPooledBoard p)
       (cases_Bool (nat_lt i (input_count (kind_at plan n))))
 
   pub first_comes : (zeros got : List ℤ) → length zeros ≡ wide_a → All IsZero zeros
-      → got ≡ map clamped (fold summed zeros (first_rows b p v inputs)) → length got ≡ length zeros → got ≡ comes_in score c n 0
+      → got ≡ map clamped (fold summed zeros (first_rows b p v inputs)) → length got ≡ length zeros → got ≡ receives run_model c n 0
   first_comes zeros got wide z is long = comes_by 0 (first_rows b p v inputs)
       (ap (first_rows b p v) h.inputs_are ∙ first_are (row_of b p v) (brought plan out c) n 0 p.shape.links same h.board.two)
       zeros got (wide ∙ h.first_width) z is long
 
   pub second_comes : (zeros got : List ℤ) → length zeros ≡ wide_b → All IsZero zeros
-      → got ≡ map clamped (fold summed zeros (second_rows b p v inputs)) → length got ≡ length zeros → got ≡ comes_in score c n 1
+      → got ≡ map clamped (fold summed zeros (second_rows b p v inputs)) → length got ≡ length zeros → got ≡ receives run_model c n 1
   second_comes zeros got wide z is long = comes_by 1 (second_rows b p v inputs)
       (ap (second_rows b p v) h.inputs_are ∙ second_are (row_of b p v) (brought plan out c) n 0 p.shape.links same)
       zeros got (wide ∙ h.second_width) z is long

@@ -17,10 +17,10 @@ use Rattle.data_loop.specs.LoopKept.{IsDone, IsDoneWith, HasTaken}
 
 -- the state of a node when all epochs are done
 pub done_state : (s : LoopState) (n i : ℕ) (x : NodeState) → IsDone s → i < length s.nodes → node_at s i ≡ n
-    → get_or s.states.items i x ≡ x → IsNodeAtEnd s.score n x
+    → get_or s.states.items i x ≡ x → IsNodeAtEnd s.run_model n x
 done_state s n i x done low node state =
     let at : first_of (plan_of s) s.epoch ≡ all_cycles (plan_of s) = ap (first_of (plan_of s)) done.1 ∙ end_first (plan_of s) in
-    subst (λ (y : (ℕ × ℕ) × (ℕ × NodeState)). IsNodeState s.score y.0.0 y.0.1 y.1.0 y.1.1)
+    subst (λ (y : (ℕ × ℕ) × (ℕ × NodeState)). IsNodeState s.run_model y.0.0 y.0.1 y.1.0 y.1.1)
     (λ j. ((done.1 j, at j), (node j, state j))) (done.0.states i low x)
 
 -- so it is of each node
@@ -34,9 +34,9 @@ pub taken : (s : LoopState) (n i : ℕ) (x y : NodeState) (stream : List ℤ) �
     → HasTaken s n stream (record s { states = with_item s.states i y })
 taken s n i x y stream whole low node sink is value = let inside : i < length s.states.items = subst (λ m. i < m) (sym whole.states) low in record {
   keeps = (x, (i, low, node, λ d. get_or_default s.states.items i d x inside ∙ sym is), value);
-  end = λ done. value ∙ kept_at_end s.score whole.sound n x (subst (IsNodeAtEnd s.score n) (sym is) (done i x low node)) sink;
-  others = λ m other done j d within there. subst (IsNodeAtEnd s.score m)
+  end = λ done. value ∙ kept_at_end s.run_model whole.sound n x (subst (IsNodeAtEnd s.run_model n) (sym is) (done i x low node)) sink;
+  others = λ m other done j d within there. subst (IsNodeAtEnd s.run_model m)
       (sym (get_or-set_other s.states.items i j y d (λ same. other (sym there ∙ ap (λ k. get_or s.nodes k 0) same ∙ node)))) (done j d within there);
-  same = record { score = refl; nodes = refl };
+  same = record { run_model = refl; nodes = refl };
   states_alone = refl;
 }

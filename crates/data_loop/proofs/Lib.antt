@@ -8,8 +8,8 @@ pub mod Playable
 pub mod TurnLemmas
 pub mod PlayLemmas
 pub mod PlayerLemmas
-pub mod FrontLemmas
-pub mod StageLemmas
+pub mod ProgressLemmas
+pub mod EpochStateLemmas
 pub mod HaveTriedLemmas
 pub mod LoopTriesLemmas
 pub mod PassLemmas

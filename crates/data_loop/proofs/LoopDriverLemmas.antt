@@ -45,7 +45,7 @@ use Rattle.data_loop.specs.declared.rows.Rows.{Rows}
 use Rattle.data_loop.specs.Driving.{HasNoLinkIn, IsDriverPlayer}
 use Rattle.data_loop.specs.Members.{follows, leads, drivers_of}
 use Rattle.data_loop.specs.Rooms.{IsSameRoom}
-use Rattle.data_loop.specs.Stages.{StandsAt}
+use Rattle.data_loop.specs.EpochStates.{StandsAt}
 use Rattle.data_loop.specs.Loops.{plan_of, node_at, StateIs}
 use Rattle.data_loop.specs.LoopsOnBoards.{stands_at, IsOnBoard}
 use Rattle.data_loop.specs.LoopDriver.{HasSamplesOf, DrivesFrom}
@@ -81,7 +81,7 @@ module _ (p : BoardLayout) (t : TableId) (s : LoopState) (on : IsOnBoard p t s) 
       epoch_there es k x at = (k, slice_get_within es k x at, get_or_from_slice_get es k x x at)
 
   -- where the driver is formless, or the dummy, no link leads to it
-  pub no_link_in : on.stage.driver ≡ [] → DrivesFrom p s → HasNoLinkIn p
+  pub no_link_in : on.epoch_state.driver ≡ [] → DrivesFrom p s → HasNoLinkIn p
   no_link_in none from_here l low reads =
       let plain = on.stands.equipped.plain in
       let driver : p.shape.driver ≡ e.shape.driver = ap (λ (x : Shape). x.driver) on.stands.shape in
@@ -148,7 +148,7 @@ module _ (p : BoardLayout) (t : TableId) (s : LoopState) (on : IsOnBoard p t s) 
       or_true false b is = is
 
   -- the member of the driver's node
-  module _ (m : Member) (own : Contains on.stage.driver m) where
+  module _ (m : Member) (own : Contains on.epoch_state.driver m) where
     pub of : ComesFrom plan s.nodes e true m
     of = comes_from plan s.nodes e true m (subst (λ (l : List Member). Contains l m) (parts p t s on).driver own)
 
@@ -160,16 +160,16 @@ module _ (p : BoardLayout) (t : TableId) (s : LoopState) (on : IsOnBoard p t s) 
     inside = let low = of.low in let long = on.loop.states in omega (arith, low, long)
 
     -- its state, in the cycle that it is to lead
-    pub stands_so : (c : ℕ) → first p + s.led ≡ c → (d : NodeState) → IsNodeState s.score s.epoch c m.node (get_or s.states.items m.at d)
-    stands_so c tied d =
+    pub stands_so : (c : ℕ) → first p + s.led ≡ c → (d : NodeState) → IsNodeState s.run_model s.epoch c m.node (get_or s.states.items m.at d)
+    stands_so c led_so_far d =
         let starts = ap (λ (x : Shape). x.first) on.stands.shape in
         let role : leads e (node_at s m.at) ≡ true = ap (leads e) of.node ∙ of.role in
         let at : stands_at s e m.at ≡ c = ap (λ b. e.shape.first + cond b s.led 0) role
-        ∙ (let z : e.shape.first + s.led ≡ c = omega (arith, starts, tied) in z) in
-        subst (λ (x : ℕ × ℕ). IsNodeState s.score s.epoch x.0 x.1 (get_or s.states.items m.at d)) (λ i. (at i, of.node i))
+        ∙ (let z : e.shape.first + s.led ≡ c = omega (arith, starts, led_so_far) in z) in
+        subst (λ (x : ℕ × ℕ). IsNodeState s.run_model s.epoch x.0 x.1 (get_or s.states.items m.at d)) (λ i. (at i, of.node i))
         (on.others m.at of.low (ap (follows e) of.node ∙ leads_alone e m.node of.role) d)
 
-    pub player_so : (v : View) → HasSamplesOf s v → (c : ℕ) → first p ≤ c → c < last p → IsDriverPlayer s.score p v s.epoch c m
+    pub player_so : (v : View) → HasSamplesOf s v → (c : ℕ) → first p ≤ c → c < last p → IsDriverPlayer s.run_model p v s.epoch c m
     player_so v samples c low high =
         let starts = ap (λ (x : Shape). x.first) on.stands.shape in let cycles = ap (λ (x : Shape). x.cycles) on.stands.shape in
         record {
@@ -184,7 +184,7 @@ module _ (p : BoardLayout) (t : TableId) (s : LoopState) (on : IsOnBoard p t s) 
             works = (and_parts (e.shape.driver == m.node) (works_in e m.node) of.role).1;
           };
           shape = on.stands.shape;
-          expect = samples ∙ expected_is plan s.score.waves.value s.epoch e on.stands.at;
+          expect = samples ∙ expected_is plan s.run_model.waves.value s.epoch e on.stands.at;
           driver = drives;
           member = of.is;
         }
@@ -202,22 +202,22 @@ module _ (p : BoardLayout) (t : TableId) (s : LoopState) (on : IsOnBoard p t s) 
         (cases_lt j m.at))
         (cases_eq j m.at)
 
-    module _ (c : ℕ) (tied : first p + s.led ≡ c) (high : c < last p) (x : NodeState) (rows : Rows) (room : IsSameRoom s.rows rows)
-        (state : IsNodeState s.score s.epoch (suc c) m.node x) where
+    module _ (c : ℕ) (led_so_far : first p + s.led ≡ c) (high : c < last p) (x : NodeState) (rows : Rows) (room : IsSameRoom s.rows rows)
+        (state : IsNodeState s.run_model s.epoch (suc c) m.node x) where
       abbrev later : LoopState
       later = record s { states = with_item s.states m.at x; rows = rows; led = s.led + 1 }
 
       kept : (j : ℕ) (d : NodeState) → j ≢ m.at → get_or (set s.states.items m.at x) j d ≡ get_or s.states.items j d
       kept j d ne = get_or-set_other s.states.items m.at j x d ne
 
-      member_kept : (y : Member) → Contains on.stage.members y → StandsAt s.score s.epoch p on.stage.seat.knows s.states.items y
-          → StandsAt s.score s.epoch p on.stage.seat.knows (set s.states.items m.at x) y
+      member_kept : (y : Member) → Contains on.epoch_state.members y → StandsAt s.run_model s.epoch p on.epoch_state.seat.knows s.states.items y
+          → StandsAt s.run_model s.epoch p on.epoch_state.seat.knows (set s.states.items m.at x) y
       member_kept y c old =
           let f = from p t s on y c in
           let apart : y.at ≢ m.at = λ is. true≢false (sym f.role ∙ ap (follows e) (sym f.node ∙ ap (node_at s) is ∙ of.node) ∙ leads_alone e m.node of.role) in
           let long = length-set s.states.items m.at x in let low = old.0 in (
             omega (arith, low, long),
-            λ d. subst (IsNodeState s.score s.epoch _ y.node) (sym (kept y.at d apart)) (old.1 d),
+            λ d. subst (IsNodeState s.run_model s.epoch _ y.node) (sym (kept y.at d apart)) (old.1 d),
           )
 
       others_later : (j : ℕ) → j < length s.nodes → follows e (node_at s j) ≡ false → StateIs later (stands_at later e j) j
@@ -226,18 +226,18 @@ module _ (p : BoardLayout) (t : TableId) (s : LoopState) (on : IsOnBoard p t s) 
           let starts = ap (λ (y : Shape). y.first) on.stands.shape in
           let role : leads e (node_at s j) ≡ true = ap (λ i. leads e (node_at s i)) is ∙ ap (leads e) of.node ∙ of.role in
           let at : stands_at later e j ≡ suc c = ap (λ b. e.shape.first + cond b (s.led + 1) 0) role
-          ∙ (let z : e.shape.first + (s.led + 1) ≡ suc c = omega (arith, starts, tied) in z) in
+          ∙ (let z : e.shape.first + (s.led + 1) ≡ suc c = omega (arith, starts, led_so_far) in z) in
           let node : node_at s j ≡ m.node = ap (node_at s) is ∙ of.node in
           let value : get_or (set s.states.items m.at x) j d ≡ x = ap (λ i. get_or (set s.states.items m.at x) i d) is
           ∙ get_or-set_same s.states.items m.at x d inside in
-          subst (λ (y : ℕ × (ℕ × NodeState)). IsNodeState s.score s.epoch y.0 y.1.0 y.1.1)
+          subst (λ (y : ℕ × (ℕ × NodeState)). IsNodeState s.run_model s.epoch y.0 y.1.0 y.1.1)
           (λ i. (sym at i, (sym node i, sym value i))) state)
           (λ (ne : j ≢ m.at).
           let off : leads e (node_at s j) ≡ false = ⊎_elim (λ (role : leads e (node_at s j) ≡ true). absurd (ne (other_at j less role)))
           (λ (f : leads e (node_at s j) ≡ false). f) (cases_Bool (leads e (node_at s j))) in
           let at : stands_at s e j ≡ stands_at later e j = ap (λ b. e.shape.first + cond b s.led 0) off
           ∙ sym (ap (λ b. e.shape.first + cond b (s.led + 1) 0) off) in
-          subst (λ (y : ℕ × NodeState). IsNodeState s.score s.epoch y.0 (node_at s j) y.1)
+          subst (λ (y : ℕ × NodeState). IsNodeState s.run_model s.epoch y.0 (node_at s j) y.1)
           (λ i. (at i, sym (kept j d ne) i)) (on.others j less none d))
           (cases_eq j m.at)
 
@@ -250,7 +250,7 @@ module _ (p : BoardLayout) (t : TableId) (s : LoopState) (on : IsOnBoard p t s) 
           ascend = on.loop.ascend;
           places = on.loop.places;
           states = length-set s.states.items m.at x ∙ on.loop.states;
-          stages = on.loop.stages;
+          epoch_states = on.loop.epoch_states;
           parts = on.loop.parts;
           room = λ k g here. room_stays s.rows rows g room (on.loop.room k g here);
           found_room = on.loop.found_room;
@@ -258,7 +258,7 @@ module _ (p : BoardLayout) (t : TableId) (s : LoopState) (on : IsOnBoard p t s) 
           few_found = on.loop.few_found;
           told = on.loop.told;
         };
-        stage = on.stage;
+        epoch_state = on.epoch_state;
         here = on.here;
         stands = record {
           sound = on.stands.sound;
@@ -272,12 +272,12 @@ module _ (p : BoardLayout) (t : TableId) (s : LoopState) (on : IsOnBoard p t s) 
           members = on.stands.members;
           apart = on.stands.apart;
           rests = on.stands.rests;
-          each = λ k d low. member_kept (get_or on.stage.members k d) (k, low, get_or_default on.stage.members k (get_or on.stage.members k d) d low)
+          each = λ k d low. member_kept (get_or on.epoch_state.members k d) (k, low, get_or_default on.epoch_state.members k (get_or on.epoch_state.members k d) d low)
               (on.stands.each k d low);
-          room = all_rows_stay s.rows rows on.stage.members room on.stands.room;
-          front = on.stands.front;
+          room = all_rows_stay s.rows rows on.epoch_state.members room on.stands.room;
+          progress = on.stands.progress;
         };
         later = on.later;
-        led = omega (arith, tied, high);
+        led = omega (arith, led_so_far, high);
         others = others_later;
       }

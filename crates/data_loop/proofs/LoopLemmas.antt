@@ -1,4 +1,4 @@
--- A loop on the board of its epoch, after a call that changes its stage there.
+-- A loop on the board of its epoch, after a call that changes its epoch state there.
 use Rattle.std.proofs.Common.{◌≡◌, ◌≢◌, ℕ, suc, ◌<◌, ◌≤◌, false, true, true≢false, List, [], length, get_or, set, sym, ap, ◌∙◌, subst, arith, ⊎_elim}
 use Rattle.std.proofs.Common.{Some, slice_get, length-set, get_or-set_same, get_or-set_other}
 use Rattle.std.specs.Prelude.{All, Contains}
@@ -17,16 +17,16 @@ use Rattle.node_progress.specs.NodeStates.{IsNodeState}
 use Rattle.data_loop.specs.declared.loop_state.LoopState.{LoopState}
 use Rattle.data_loop.specs.declared.member.Member.{Member}
 use Rattle.data_loop.specs.declared.rows.Rows.{Rows}
-use Rattle.data_loop.specs.declared.stage.Stage.{Stage}
+use Rattle.data_loop.specs.declared.epoch_state.EpochState.{EpochState}
 use Rattle.data_loop.specs.Members.{follows}
 use Rattle.data_loop.specs.Rooms.{HasRowsFor, IsSameRoom}
-use Rattle.data_loop.specs.StageParts.{IsStageOf, IsSameStage, IsUnbegun, HasRoomIn}
-use Rattle.data_loop.specs.Stages.{IsStanding, StandsAt, AreLeft}
+use Rattle.data_loop.specs.EpochStateParts.{IsEpochStateOf, IsSameEpochState, IsUnbegun, HasRoomIn}
+use Rattle.data_loop.specs.EpochStates.{IsStanding, StandsAt, AreLeft}
 use Rattle.data_loop.specs.Tables.{AreTables}
 use Rattle.data_loop.specs.Loops.{plan_of, node_at}
 use Rattle.data_loop.specs.LoopsOnBoards.{stands_at, IsOnBoard}
 use Rattle.data_loop.proofs.MemberLemmas.{ComesFrom, comes_from, few}
-use Rattle.data_loop.proofs.StageLemmas.{rows_stay}
+use Rattle.data_loop.proofs.EpochStateLemmas.{rows_stay}
 
 -- an element that a write elsewhere leaves
 pub get_other : {X : Type 0} (xs : List X) (i k : ℕ) (x : X) → k ≢ i → slice_get (set xs i x) k ≡ slice_get xs k
@@ -42,9 +42,9 @@ pub get_same : {X : Type 0} (xs : List X) (i : ℕ) (x : X) → i < length xs �
 get_same xs i x low = let long = length-set xs i x in
     slice_get-get_or (set xs i x) i x (omega (arith, low, long)) ∙ ap Some (get_or-set_same xs i x x low)
 
--- a stage with the same parts
-pub same_parts : (plan : Plan) (nodes : List ℕ) (k : ℕ) (e : Epoch) (g h : Stage) → IsSameStage g h → IsStageOf plan nodes k e g
-    → IsStageOf plan nodes k e h
+-- an epoch state with the same parts
+pub same_parts : (plan : Plan) (nodes : List ℕ) (k : ℕ) (e : Epoch) (g h : EpochState) → IsSameEpochState g h → IsEpochStateOf plan nodes k e g
+    → IsEpochStateOf plan nodes k e h
 same_parts plan nodes k e g h same of = record {
   members = same.members ∙ of.members;
   driver = same.driver ∙ of.driver;
@@ -56,24 +56,24 @@ same_parts plan nodes k e g h same of = record {
 pub all_rows_stay : (old new : Rows) (ms : List Member) → IsSameRoom old new → All (HasRowsFor old) ms → All (HasRowsFor new) ms
 all_rows_stay old new ms same h k d low = rows_stay old new (get_or ms k d) same (h k d low)
 
-pub room_stays : (old new : Rows) (g : Stage) → IsSameRoom old new → HasRoomIn old g → HasRoomIn new g
+pub room_stays : (old new : Rows) (g : EpochState) → IsSameRoom old new → HasRoomIn old g → HasRoomIn new g
 room_stays old new g same h = (all_rows_stay old new g.members same h.0, all_rows_stay old new g.driver same h.1)
 
-same_room : (rows : Rows) (g h : Stage) → IsSameStage g h → HasRoomIn rows g → HasRoomIn rows h
+same_room : (rows : Rows) (g h : EpochState) → IsSameEpochState g h → HasRoomIn rows g → HasRoomIn rows h
 same_room rows g h same r = (subst (All (HasRowsFor rows)) (sym same.members) r.0, subst (All (HasRowsFor rows)) (sym same.driver) r.1)
 
 module _ (p : BoardLayout) (tb : TableId) (s : LoopState) (on : IsOnBoard p tb s) where
   abbrev plan : Plan
   plan = plan_of s
 
-  abbrev g : Stage
-  g = on.stage
+  abbrev g : EpochState
+  g = on.epoch_state
 
-  pub low : s.epoch < length s.stages.items
-  low = slice_get_within s.stages.items s.epoch g on.here
+  pub low : s.epoch < length s.epoch_states.items
+  low = slice_get_within s.epoch_states.items s.epoch g on.here
 
   -- what the loop has in the epoch
-  pub parts : IsStageOf plan s.nodes s.epoch on.stands.epoch g
+  pub parts : IsEpochStateOf plan s.nodes s.epoch on.stands.epoch g
   parts = on.loop.parts s.epoch on.stands.epoch g on.stands.at on.here
 
   pub few_members : length g.members ≤ length s.nodes
@@ -82,33 +82,33 @@ module _ (p : BoardLayout) (tb : TableId) (s : LoopState) (on : IsOnBoard p tb s
   pub from : (m : Member) → Contains g.members m → ComesFrom plan s.nodes on.stands.epoch false m
   from m c = comes_from plan s.nodes on.stands.epoch false m (subst (λ (ms : List Member). Contains ms m) parts.members c)
 
-  -- another stage in the epoch, with the same parts
-  module _ (h : Stage) (same : IsSameStage g h) where
-    abbrev stages : List Stage
-    stages = set s.stages.items s.epoch h
+  -- another epoch state in the epoch, with the same parts
+  module _ (h : EpochState) (same : IsSameEpochState g h) where
+    abbrev epoch_states : List EpochState
+    epoch_states = set s.epoch_states.items s.epoch h
 
-    parts_on : (k : ℕ) (e : Epoch) (x : Stage) → IsEpoch plan k e → slice_get stages k ≡ Some x → IsStageOf plan s.nodes k e x
+    parts_on : (k : ℕ) (e : Epoch) (x : EpochState) → IsEpoch plan k e → slice_get epoch_states k ≡ Some x → IsEpochStateOf plan s.nodes k e x
     parts_on k e x at here = ⊎_elim
         (λ (is : k ≡ s.epoch).
-        let own : h ≡ x = same_Some h x (sym (get_same s.stages.items s.epoch h low) ∙ ap (slice_get stages) (sym is) ∙ here) in
-        subst (IsStageOf plan s.nodes k e) own (same_parts plan s.nodes k e g h same
-        (on.loop.parts k e g at (ap (slice_get s.stages.items) is ∙ on.here))))
-        (λ (ne : k ≢ s.epoch). on.loop.parts k e x at (sym (get_other s.stages.items s.epoch k h ne) ∙ here))
+        let own : h ≡ x = same_Some h x (sym (get_same s.epoch_states.items s.epoch h low) ∙ ap (slice_get epoch_states) (sym is) ∙ here) in
+        subst (IsEpochStateOf plan s.nodes k e) own (same_parts plan s.nodes k e g h same
+        (on.loop.parts k e g at (ap (slice_get s.epoch_states.items) is ∙ on.here))))
+        (λ (ne : k ≢ s.epoch). on.loop.parts k e x at (sym (get_other s.epoch_states.items s.epoch k h ne) ∙ here))
         (cases_eq k s.epoch)
 
-    rooms_on : (rows : Rows) → IsSameRoom s.rows rows → (k : ℕ) (x : Stage) → slice_get stages k ≡ Some x → HasRoomIn rows x
+    rooms_on : (rows : Rows) → IsSameRoom s.rows rows → (k : ℕ) (x : EpochState) → slice_get epoch_states k ≡ Some x → HasRoomIn rows x
     rooms_on rows room k x here = ⊎_elim
         (λ (is : k ≡ s.epoch).
-        let own : h ≡ x = same_Some h x (sym (get_same s.stages.items s.epoch h low) ∙ ap (slice_get stages) (sym is) ∙ here) in
+        let own : h ≡ x = same_Some h x (sym (get_same s.epoch_states.items s.epoch h low) ∙ ap (slice_get epoch_states) (sym is) ∙ here) in
         subst (HasRoomIn rows) own (same_room rows g h same (room_stays s.rows rows g room (on.loop.room s.epoch g on.here))))
-        (λ (ne : k ≢ s.epoch). room_stays s.rows rows x room (on.loop.room k x (sym (get_other s.stages.items s.epoch k h ne) ∙ here)))
+        (λ (ne : k ≢ s.epoch). room_stays s.rows rows x room (on.loop.room k x (sym (get_other s.epoch_states.items s.epoch k h ne) ∙ here)))
         (cases_eq k s.epoch)
 
-    later_on : (i : ℕ) (e : Epoch) (x : Stage) → suc s.epoch ≤ i → IsEpoch plan i e → slice_get stages i ≡ Some x → IsUnbegun e x
+    later_on : (i : ℕ) (e : Epoch) (x : EpochState) → suc s.epoch ≤ i → IsEpoch plan i e → slice_get epoch_states i ≡ Some x → IsUnbegun e x
     later_on i e x past at here = on.later i e x past at
-        (sym (get_other s.stages.items s.epoch i h (λ is. omega (arith, is, past))) ∙ here)
+        (sym (get_other s.epoch_states.items s.epoch i h (λ is. omega (arith, is, past))) ∙ here)
 
-    module _ (ss : List NodeState) (rows : Rows) (st : IsStanding s.score s.epoch p tb h ss rows) (long : length ss ≡ length s.states.items)
+    module _ (ss : List NodeState) (rows : Rows) (st : IsStanding s.run_model s.epoch p tb h ss rows) (long : length ss ≡ length s.states.items)
         (left : AreLeft g.members s.states.items ss) (room : IsSameRoom s.rows rows) where
       one_epoch : on.stands.epoch ≡ st.epoch
       one_epoch = same_Some on.stands.epoch st.epoch (sym on.stands.at ∙ st.at)
@@ -129,7 +129,7 @@ module _ (p : BoardLayout) (tb : TableId) (s : LoopState) (on : IsOnBoard p tb s
       pub on_more : (found : Vec (ℕ × ℕ) _) (tables : List (List (ℕ × ℕ))) → length found.items ≤ length g.members
           → vec_capacity found ≡ vec_capacity s.found → AreTables tables → length tables ≡ length s.tables
           → get_or tables (length found.items) [] ≡ found.items → (woke : ℕ)
-          → IsOnBoard p tb (record s { states = with_items s.states ss; stages = with_item s.stages s.epoch h; rows = rows; found = found; tables = tables; woke = woke })
+          → IsOnBoard p tb (record s { states = with_items s.states ss; epoch_states = with_item s.epoch_states s.epoch h; rows = rows; found = found; tables = tables; woke = woke })
       on_more found tables short capacity are count told woke = record {
         loop = record {
           sound = on.loop.sound;
@@ -137,7 +137,7 @@ module _ (p : BoardLayout) (tb : TableId) (s : LoopState) (on : IsOnBoard p tb s
           ascend = on.loop.ascend;
           places = on.loop.places;
           states = ap (λ (l : List NodeState). length l) items_are ∙ long ∙ on.loop.states;
-          stages = length-set s.stages.items s.epoch h ∙ on.loop.stages;
+          epoch_states = length-set s.epoch_states.items s.epoch h ∙ on.loop.epoch_states;
           parts = parts_on;
           room = rooms_on rows room;
           found_room = subst (λ n. length s.nodes ≤ n) (sym capacity) on.loop.found_room;
@@ -145,8 +145,8 @@ module _ (p : BoardLayout) (tb : TableId) (s : LoopState) (on : IsOnBoard p tb s
           few_found = let fewer = few_members in omega (arith, short, fewer);
           told = told;
         };
-        stage = h;
-        here = get_same s.stages.items s.epoch h low;
+        epoch_state = h;
+        here = get_same s.epoch_states.items s.epoch h low;
         stands = record {
           sound = st.sound;
           waves = st.waves;
@@ -159,14 +159,14 @@ module _ (p : BoardLayout) (tb : TableId) (s : LoopState) (on : IsOnBoard p tb s
           members = st.members;
           apart = st.apart;
           rests = st.rests;
-          each = subst (λ (l : List NodeState). All (StandsAt s.score s.epoch p h.seat.knows l) h.members) (sym items_are) st.each;
+          each = subst (λ (l : List NodeState). All (StandsAt s.run_model s.epoch p h.seat.knows l) h.members) (sym items_are) st.each;
           room = st.room;
-          front = st.front;
+          progress = st.progress;
         };
         later = later_on;
         led = on.led;
         others = λ j less none d.
-            subst (λ (x : Epoch × NodeState). IsNodeState s.score s.epoch (stands_at s x.0 j) (node_at s j) x.1)
+            subst (λ (x : Epoch × NodeState). IsNodeState s.run_model s.epoch (stands_at s x.0 j) (node_at s j) x.1)
             (λ i. (one_epoch i, sym (others_on j less none d) i))
             (on.others j less (ap (λ e. follows e (node_at s j)) one_epoch ∙ none) d);
       }

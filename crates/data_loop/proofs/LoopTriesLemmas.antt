@@ -10,12 +10,12 @@ use Rattle.board_rule.specs.declared.view.View.{View}
 use Rattle.board_rule.specs.Layout.{BoardLayout, nodes, last}
 use Rattle.board_rule.specs.Steps.{tried}
 use Rattle.node_state.specs.declared.node_state.NodeState.{NodeState}
-use Rattle.node_progress.specs.declared.score.Score.{Score}
+use Rattle.node_progress.specs.declared.run_model.RunModel.{RunModel}
 use Rattle.data_loop.specs.declared.member.Member.{Member}
 use Rattle.data_loop.specs.declared.rows.Rows.{Rows}
-use Rattle.data_loop.specs.declared.stage.Stage.{Stage}
+use Rattle.data_loop.specs.declared.epoch_state.EpochState.{EpochState}
 use Rattle.data_loop.specs.turns.Turning.{IsAtRest, HasTurned}
-use Rattle.data_loop.specs.Stages.{AreApart, IsStanding}
+use Rattle.data_loop.specs.EpochStates.{AreApart, IsStanding}
 use Rattle.data_loop.specs.Tries.{no_member, member_at}
 use Rattle.data_loop.specs.LoopTurn.{next_in, HaveTried}
 use Rattle.data_loop.specs.LoopTries.{members_at, HasRunAt}
@@ -44,8 +44,8 @@ pub none_at : (p : BoardLayout) (v : View) (n : ℕ) (ms : List Member) (found :
 none_at p v n ms found empty h = subst (λ l. HaveTried p v l found v) (sym (members_none n ms h)) (none_tried p v found empty)
 
 -- the member at an index
-module _ (score : Score) (k : ℕ) (p : BoardLayout) (t : TableId) (g : Stage) (states : List NodeState) (rows : Rows)
-    (st : IsStanding score k p t g states rows) (i : ℕ) (low : i < length g.members) (n : ℕ) (is : (member_at g i).node ≡ n)
+module _ (run_model : RunModel) (k : ℕ) (p : BoardLayout) (t : TableId) (g : EpochState) (states : List NodeState) (rows : Rows)
+    (st : IsStanding run_model k p t g states rows) (i : ℕ) (low : i < length g.members) (n : ℕ) (is : (member_at g i).node ≡ n)
     (found : List (ℕ × ℕ)) (empty : found ≡ []) where
   abbrev m : Member
   m = member_at g i
@@ -71,7 +71,7 @@ module _ (score : Score) (k : ℕ) (p : BoardLayout) (t : TableId) (g : Stage) (
   tried_at some x other u after = subst (λ (y : List Member × ℕ). HaveTried p v y.0 (found ++ (y.1, x) ∷ []) u) (λ j. (sym one j, is j))
       (one_tried p v [] m found v none_yet st.equipped.plain inside some x other u after)
 
-  pub ran_at : (h : Stage) → HasTurned p v g.own (p.index m.node) h.seat.knows h.own → HasRunAt p g n h
+  pub ran_at : (h : EpochState) → HasTurned p v g.own (p.index m.node) h.seat.knows h.own → HasRunAt p g n h
   ran_at h turned = record {
     index = i;
     inside = low;

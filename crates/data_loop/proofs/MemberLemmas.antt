@@ -9,7 +9,7 @@ use Rattle.pw_graph.specs.declared.plan.Epoch.{Epoch}
 use Rattle.pw_graph.specs.declared.plan.Plan.{Plan}
 use Rattle.data_loop.specs.declared.member.Member.{Member}
 use Rattle.data_loop.specs.Members.{member_of, has_role, members_by}
-use Rattle.data_loop.specs.Stages.{AreApart}
+use Rattle.data_loop.specs.EpochStates.{AreApart}
 use Rattle.data_loop.proofs.PairLemmas.{pick_of, picks}
 
 filter_le : {X : Type 0} (p : X → Bool) (xs : List X) → length (filter p xs) ≤ length xs

@@ -9,10 +9,10 @@ use Rattle.board_rule.specs.declared.view.View.{View}
 use Rattle.board_rule.specs.Layout.{BoardLayout, first}
 use Rattle.data_loop.specs.declared.did.Did.{Did}
 use Rattle.data_loop.specs.declared.did.Did.TheVariants.{Ran, Idle}
-use Rattle.data_loop.specs.declared.front.Front.{Front}
+use Rattle.data_loop.specs.declared.progress.Progress.{Progress}
 use Rattle.data_loop.specs.declared.member.Member.{Member}
-use Rattle.data_loop.specs.declared.stage.Stage.{Stage}
-use Rattle.data_loop.specs.Fronts.{is_chosen, chosen_in, HasPassed}
+use Rattle.data_loop.specs.declared.epoch_state.EpochState.{EpochState}
+use Rattle.data_loop.specs.Progress.{is_chosen, chosen_in, HasPassed}
 use Rattle.data_loop.specs.Tries.{no_member}
 use Rattle.data_loop.specs.LoopTurn.{next_in, has_left, least_next, is_behind, turn_order, HaveTried, HasRun, IsDid}
 use Rattle.data_loop.proofs.HaveTriedLemmas.{tried_on}
@@ -56,7 +56,7 @@ chosen_is p v m least ended at is = ap (λ b. cond at b (not b)) (⊎_elim
     (cases_eq ended least))
 
 -- the two passes of a turn
-module _ (p : BoardLayout) (g : Stage) (least : ℕ) (exact : first p + least ≡ least_next p g.seat.knows g.members) where
+module _ (p : BoardLayout) (g : EpochState) (least : ℕ) (exact : first p + least ≡ least_next p g.seat.knows g.members) where
   abbrev v : View
   v = g.seat.knows
 
@@ -70,8 +70,8 @@ module _ (p : BoardLayout) (g : Stage) (least : ℕ) (exact : first p + least �
   order = ap (λ (l : List Member × List Member). l.0 ++ l.1) (λ i. (sym behind i, sym ahead i))
 
   -- the first one ran a node
-  pub ran_first : (f : Front) (n : ℕ) (found : List (ℕ × ℕ)) (h : Stage)
-      → HasRun p (record g { front = f }) (chosen_in p g least true) n found h → HasRun p g (turn_order p v g.members) n found h
+  pub ran_first : (f : Progress) (n : ℕ) (found : List (ℕ × ℕ)) (h : EpochState)
+      → HasRun p (record g { progress = f }) (chosen_in p g least true) n found h → HasRun p g (turn_order p v g.members) n found h
   ran_first f n found h r = record {
     first = r.first;
     member = r.member;
@@ -85,12 +85,12 @@ module _ (p : BoardLayout) (g : Stage) (least : ℕ) (exact : first p + least �
   }
 
   -- the second one, after a first one that found none awake
-  module _ (g1 : Stage) (members : g1.members ≡ g.members) (one : List (ℕ × ℕ))
+  module _ (g1 : EpochState) (members : g1.members ≡ g.members) (one : List (ℕ × ℕ))
       (tried_one : HaveTried p v (chosen_in p g least true) one g1.seat.knows) where
     chosen_same : chosen_in p g1 least false ≡ chosen_in p g least false
     chosen_same i = filter (is_chosen p (tried_one.still i) least false) (members i)
 
-    pub ran_second : (n : ℕ) (found : List (ℕ × ℕ)) (h : Stage) → HasRun p g1 (chosen_in p g1 least false) n found h
+    pub ran_second : (n : ℕ) (found : List (ℕ × ℕ)) (h : EpochState) → HasRun p g1 (chosen_in p g1 least false) n found h
         → HasRun p g (turn_order p v g.members) n (one ++ found) h
     ran_second n found h r = record {
       first = chosen_in p g least true ++ r.first;
@@ -112,7 +112,7 @@ module _ (p : BoardLayout) (g : Stage) (least : ℕ) (exact : first p + least �
         (tried_on p v g1.seat.knows u (chosen_in p g least true) (chosen_in p g least false) one found tried_one
         (subst (λ l. HaveTried p g1.seat.knows l found u) chosen_same t))
 
-    pub did_second : (did : Did) (new : List (ℕ × ℕ)) (h : Stage) → HasPassed p least false g1 did one new h → IsDid p g did new h
+    pub did_second : (did : Did) (new : List (ℕ × ℕ)) (h : EpochState) → HasPassed p least false g1 did one new h → IsDid p g did new h
     did_second (Ran n) new h x = subst (λ l. HasRun p g (turn_order p v g.members) n l h) (sym x.1) (ran_second n x.0 h x.2)
     did_second Idle new h x = subst (λ l. HaveTried p v (turn_order p v g.members) l h.seat.knows) (sym x.1)
         (idle_second x.0 h.seat.knows x.2)
@@ -125,7 +125,7 @@ module _ (p : BoardLayout) (g : Stage) (least : ℕ) (exact : first p + least �
         omega (arith, few, same, both)
 
 -- a turn makes at most one try of each member
-pub few_did : (p : BoardLayout) (g : Stage) (did : Did) (found : List (ℕ × ℕ)) (h : Stage) → IsDid p g did found h
+pub few_did : (p : BoardLayout) (g : EpochState) (did : Did) (found : List (ℕ × ℕ)) (h : EpochState) → IsDid p g did found h
     → length found ≤ length g.members
 few_did p g did found h is = by did is
   where

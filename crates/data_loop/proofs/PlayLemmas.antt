@@ -34,7 +34,7 @@ use Rattle.board_rule.proofs.buffers.WiredLemmas.{wired}
 use Rattle.board_rule.proofs.buffers.HolderLemmas.{link_is, pool_there}
 use Rattle.io_areas.specs.PooledBoard.{IsPooledBoard}
 use Rattle.io_areas.specs.Quanta.{quantum_of}
-use Rattle.node_progress.specs.declared.score.Score.{Score}
+use Rattle.node_progress.specs.declared.run_model.RunModel.{RunModel}
 use Rattle.data_loop.specs.declared.inputs.Input.{Input}
 use Rattle.data_loop.specs.turns.Ends.{fills_of}
 use Rattle.node_progress.specs.Standing.{port_at, wide_at}
@@ -102,20 +102,20 @@ few_from n a (l ∷ ls) = let more = few_from n (a + 1) ls in
     ⊎_elim (λ (t : (l.to.node == n) ≡ true). rw t (omega (arith, more))) (λ (f : (l.to.node == n) ≡ false). rw f (omega (arith, more)))
     (cases_Bool (l.to.node == n))
 
-pub few_inputs : (score : Score) (k c n : ℕ) (w : IsWorkedIn score k c n) → length (inputs_of w.epoch.shape n) ≤ 256
-few_inputs score k c n w = let most = (epoch_sound score k c n w).shape.sound.links.few in
+pub few_inputs : (run_model : RunModel) (k c n : ℕ) (w : IsWorkedIn run_model k c n) → length (inputs_of w.epoch.shape n) ≤ 256
+few_inputs run_model k c n w = let most = (epoch_sound run_model k c n w).shape.sound.links.few in
     let some = few_from n 0 w.epoch.shape.links in omega (arith, most, some)
 
-module _ (score : Score) (k c n : ℕ) (w : IsWorkedIn score k c n) (p : BoardLayout) (pooled : IsPooledBoard p)
+module _ (run_model : RunModel) (k c n : ℕ) (w : IsWorkedIn run_model k c n) (p : BoardLayout) (pooled : IsPooledBoard p)
     (shape : p.shape ≡ w.epoch.shape) where
   abbrev plan : Plan
-  plan = score.plan.value
+  plan = run_model.plan.value
 
   abbrev e : Epoch
   e = w.epoch
 
   sound : IsSoundEpoch plan e
-  sound = epoch_sound score k c n w
+  sound = epoch_sound run_model k c n w
 
   -- a link has the channels of its two ports, and of its pool
   module _ (l : ℕ) (low : l < length p.shape.links) where
@@ -161,7 +161,7 @@ module _ (score : Score) (k c n : ℕ) (w : IsWorkedIn score k c n) (p : BoardLa
       let from : (pool_at p (pool_of p l)).port ≡ (link_at p l).from = sym x.2 ∙ sym (ap (λ (k : ShapeLink). k.from) (link_is p l x.0 x.1)) in
       (is_port (pool_of p l) q.0).1 ∙ ap (channels_of e.forms) from ∙ from_is l low
 
-  pub board_is : (v : View) → v.expect ≡ epoch_rows plan score.waves.value e → IsBoardOf score p v e
+  pub board_is : (v : View) → v.expect ≡ epoch_rows plan run_model.waves.value e → IsBoardOf run_model p v e
   board_is v expect = record {
     shape = shape;
     expect = expect;
@@ -175,7 +175,7 @@ module _ (score : Score) (k c n : ℕ) (w : IsWorkedIn score k c n) (p : BoardLa
           subst (λ (y : ShapeLink). y.to.port < 2) (sym is) (omega (arith, f, few))
 
   wide : (i : ℕ) → input_width plan e n i ≡ wide_at plan c n i
-  wide i = ap (λ m. cond (nat_lt i (input_count (kind_at plan n))) (plan.quantum * m) 0) (sym (now_is score k c n w i))
+  wide i = ap (λ m. cond (nat_lt i (input_count (kind_at plan n))) (plan.quantum * m) 0) (sym (now_is run_model k c n w i))
 
   -- rows of its links are as wide as its inputs
   quantum_is : (l : ℕ) (low : l < length p.shape.links) → (link_at p l).to.node ≡ n
@@ -189,7 +189,7 @@ module _ (score : Score) (k c n : ℕ) (w : IsWorkedIn score k c n) (p : BoardLa
       (λ (z : (link_at p l).to.port ≡ 0). ap (λ m. channels_of e.forms (port_at n m)) z)
       (λ (o : (link_at p l).to.port ≢ 0). let one : (link_at p l).to.port ≡ 1 = omega (arith, input, few, o) in
       ap (λ m. channels_of e.forms (port_at n m)) one
-      ∙ inputs_alike score k c n w (kind_at plan n) refl (omega (arith, input, one)))
+      ∙ inputs_alike run_model k c n w (kind_at plan n) refl (omega (arith, input, one)))
       (cases_eq (link_at p l).to.port 0) in
       let q : p.shape.quantum ≡ plan.quantum = ap (λ (s : Shape). s.quantum) shape ∙ sound.quantum in
       ap₂ (λ x y. x * y) q (pool_channels l low)
@@ -210,7 +210,7 @@ module _ (score : Score) (k c n : ℕ) (w : IsWorkedIn score k c n) (p : BoardLa
       subst (λ m. (link_at p i).to.port < input_count (kind_at plan m)) is (formed i low).input in
       cond-true (nat_lt 1 (input_count (kind_at plan n))) (plan.quantum * channels_of e.forms (port_at n 1)) 0
       (lt-ltb 1 (input_count (kind_at plan n)) (omega (arith, input, one)))
-      ∙ ap (λ m. plan.quantum * m) (inputs_alike score k c n w (kind_at plan n) refl (omega (arith, input, one)))
+      ∙ ap (λ m. plan.quantum * m) (inputs_alike run_model k c n w (kind_at plan n) refl (omega (arith, input, one)))
       ∙ sym (cond-true (nat_lt 0 (input_count (kind_at plan n))) (plan.quantum * channels_of e.forms (port_at n 0)) 0
       (lt-ltb 0 (input_count (kind_at plan n)) (omega (arith, input, one)))))
 
@@ -232,7 +232,7 @@ module _ (score : Score) (k c n : ℕ) (w : IsWorkedIn score k c n) (p : BoardLa
 
   -- each pool of the node has such a row
   pub pool_rows : (left right : List ℤ) → length left ≡ output_width plan e n 0 → length right ≡ output_width plan e n 1 → (q : ℕ)
-      → Contains (fills_of p.shape n) q → IsPoolFor score p n 0 left q ⊎ IsPoolFor score p n 1 right q
+      → Contains (fills_of p.shape n) q → IsPoolFor run_model p n 0 left q ⊎ IsPoolFor run_model p n 1 right q
   pool_rows left right l r q c =
       let own = is_of (λ (x : PoolShape). x.port.node) n (pools_of p.shape) q no_pool c in
       let x : PoolShape = pool_at p q in
@@ -248,7 +248,7 @@ module _ (score : Score) (k c n : ℕ) (w : IsWorkedIn score k c n) (p : BoardLa
       (cases_eq o 0)
     where
       row_for : (q : ℕ) (low : q < length (pools_of p.shape)) (o : ℕ) (row : List ℤ) → length row ≡ output_width plan e n o
-          → (pool_at p q).port.node ≡ n → (pool_at p q).port.port ≡ input_count (kind_at plan n) + o → IsPoolFor score p n o row q
+          → (pool_at p q).port.node ≡ n → (pool_at p q).port.port ≡ input_count (kind_at plan n) + o → IsPoolFor run_model p n o row q
       row_for q low o row long node at =
           let port : (pool_at p q).port ≡ port_at n (input_count (kind_at plan n) + o) = λ i. record { node = node i; port = at i } in
           let read : is_read plan e n o ≡ true = any_from (λ (y : PoolShape). is_same_port y.port (port_at n (input_count (kind_at plan n) + o)))
@@ -263,10 +263,10 @@ module _ (score : Score) (k c n : ℕ) (w : IsWorkedIn score k c n) (p : BoardLa
           )
 
   -- so a member may play
-  pub may_play : (v : View) → v.expect ≡ epoch_rows plan score.waves.value e → (node_of v (p.index n)).next ≡ c → (s : NodeState)
-      → IsNodeState score k c n s → (a b left right : List ℤ) → length a ≡ input_width plan e n 0 → length b ≡ input_width plan e n 1
+  pub may_play : (v : View) → v.expect ≡ epoch_rows plan run_model.waves.value e → (node_of v (p.index n)).next ≡ c → (s : NodeState)
+      → IsNodeState run_model k c n s → (a b left right : List ℤ) → length a ≡ input_width plan e n 0 → length b ≡ input_width plan e n 1
       → length left ≡ output_width plan e n 0 → length right ≡ output_width plan e n 1
-      → MayPlay score p v k c n (input_width plan e n 0) s a b left right
+      → MayPlay run_model p v k c n (input_width plan e n 0) s a b left right
   may_play v expect now s st a b left right la lb ll lr = record {
     works = w;
     state = st;

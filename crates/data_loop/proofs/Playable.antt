@@ -10,38 +10,38 @@ use Rattle.board_rule.specs.View.{node_of}
 use Rattle.board_rule.specs.buffers.EndViews.{pool_at}
 use Rattle.data_loop.specs.turns.Ends.{fills_of}
 use Rattle.data_loop.specs.declared.member.Member.{Member}
-use Rattle.node_progress.specs.declared.score.Score.{Score}
+use Rattle.node_progress.specs.declared.run_model.RunModel.{RunModel}
 use Rattle.node_progress.specs.Standing.{port_at, wide_at}
 use Rattle.node_progress.specs.NodeStates.{IsNodeState, IsWorkedIn, IsOutputRow}
 use Rattle.data_loop.specs.working.Inputs.{AreLong, IsWide}
 use Rattle.data_loop.specs.Gathering.{inputs_of, IsBoardOf}
 
 -- a node of the loop, with its links and pools on the board
-pub record IsMemberOf (score : Score) (p : BoardLayout) (m : Member) : Type 0 where
+pub record IsMemberOf (run_model : RunModel) (p : BoardLayout) (m : Member) : Type 0 where
   pub inputs : m.inputs ≡ inputs_of p.shape m.node
   pub pools : m.pools ≡ fills_of p.shape m.node
   pub few : length m.inputs ≤ links_limit
-  pub first_output : m.first_output ≡ input_count (kind_at score.plan.value m.node)
+  pub first_output : m.first_output ≡ input_count (kind_at run_model.plan.value m.node)
 
 -- the pool is that of the output o, whose row is not empty
-abbrev pub IsPoolFor : Score → BoardLayout → ℕ → ℕ → List ℤ → ℕ → Type 0
-IsPoolFor score p n o row q =
-    ((pool_at p q).port ≡ port_at n (input_count (kind_at score.plan.value n) + o))
+abbrev pub IsPoolFor : RunModel → BoardLayout → ℕ → ℕ → List ℤ → ℕ → Type 0
+IsPoolFor run_model p n o row q =
+    ((pool_at p q).port ≡ port_at n (input_count (kind_at run_model.plan.value n) + o))
     × (0 < length row)
 
 -- in the cycle c of epoch k, in which the node n is, its state stands at the cycle, and the rows
 -- fit its ports; a row of n links has `width` samples
-pub record MayPlay (score : Score) (p : BoardLayout) (v : View) (k c n width : ℕ) (s : NodeState)
+pub record MayPlay (run_model : RunModel) (p : BoardLayout) (v : View) (k c n width : ℕ) (s : NodeState)
     (a b left right : List ℤ) : Type 0 where
-  pub works : IsWorkedIn score k c n
-  pub state : IsNodeState score k c n s
-  pub board : IsBoardOf score p v works.epoch
+  pub works : IsWorkedIn run_model k c n
+  pub state : IsNodeState run_model k c n s
+  pub board : IsBoardOf run_model p v works.epoch
   pub now : (node_of v (p.index n)).next ≡ c
-  pub left_fits : IsOutputRow score.plan.value works.epoch n 0 left
-  pub right_fits : IsOutputRow score.plan.value works.epoch n 1 right
-  pub first_width : length a ≡ wide_at score.plan.value c n 0
-  pub second_width : length b ≡ wide_at score.plan.value c n 1
+  pub left_fits : IsOutputRow run_model.plan.value works.epoch n 0 left
+  pub right_fits : IsOutputRow run_model.plan.value works.epoch n 1 right
+  pub first_width : length a ≡ wide_at run_model.plan.value c n 0
+  pub second_width : length b ≡ wide_at run_model.plan.value c n 1
   pub second : IsWide width (length b) (inputs_of p.shape n)
   pub long : AreLong p width (inputs_of p.shape n)
   pub rows : (q : ℕ) → Contains (fills_of p.shape n) q
-      → IsPoolFor score p n 0 left q ⊎ IsPoolFor score p n 1 right q
+      → IsPoolFor run_model p n 0 left q ⊎ IsPoolFor run_model p n 1 right q

@@ -5,9 +5,9 @@ use Rattle.std.proofs.lemmas.Bool.{cases_lt}
 use Rattle.std.proofs.lemmas.List.{get_or_default, get_or-take, length-take-le, take_all}
 use Rattle.data_loop.specs.declared.member.Member.{Member}
 use Rattle.data_loop.specs.declared.rows.Rows.{Rows}
-use Rattle.data_loop.specs.declared.stage.Stage.{Stage}
+use Rattle.data_loop.specs.declared.epoch_state.EpochState.{EpochState}
 use Rattle.data_loop.specs.Rooms.{HasRowsFor, IsWithin, AreAsLong}
-use Rattle.data_loop.specs.StageParts.{HasRoomIn, IsStageWithin}
+use Rattle.data_loop.specs.EpochStateParts.{HasRoomIn, IsEpochStateWithin}
 
 pub within_le : (a b : ℕ) (m : Member) → a ≤ b → IsWithin a m → IsWithin b m
 within_le a b m low h = let x = h.first in let y = h.second in let z = h.left in let w = h.right in record {
@@ -20,8 +20,8 @@ within_le a b m low h = let x = h.first in let y = h.second in let z = h.left in
 pub all_within_le : (a b : ℕ) (ms : List Member) → a ≤ b → All (IsWithin a) ms → All (IsWithin b) ms
 all_within_le a b ms low h k d lt = within_le a b (get_or ms k d) low (h k d lt)
 
-pub stage_within_le : (a b : ℕ) (g : Stage) → a ≤ b → IsStageWithin a g → IsStageWithin b g
-stage_within_le a b g low h = (all_within_le a b g.members low h.0, all_within_le a b g.driver low h.1)
+pub epoch_state_within_le : (a b : ℕ) (g : EpochState) → a ≤ b → IsEpochStateWithin a g → IsEpochStateWithin b g
+epoch_state_within_le a b g low h = (all_within_le a b g.members low h.0, all_within_le a b g.driver low h.1)
 
 -- one element more
 pub taken_more : {X : Type 0} (P Q : X → Type 0) (xs : List X) (i : ℕ) (e : X) → i < length xs → ((x : X) → P x → Q x)
@@ -46,8 +46,8 @@ rows_fit width rows m long h = record {
   right = subst (λ n. m.right_width ≤ n) (sym long.right) h.right;
 }
 
-pub stage_fits : (width : ℕ) (rows : Rows) (g : Stage) → AreAsLong width rows → IsStageWithin width g → HasRoomIn rows g
-stage_fits width rows g long h = (
+pub epoch_state_fits : (width : ℕ) (rows : Rows) (g : EpochState) → AreAsLong width rows → IsEpochStateWithin width g → HasRoomIn rows g
+epoch_state_fits width rows g long h = (
   λ k d lt. rows_fit width rows (get_or g.members k d) long (h.0 k d lt),
   λ k d lt. rows_fit width rows (get_or g.driver k d) long (h.1 k d lt),
 )

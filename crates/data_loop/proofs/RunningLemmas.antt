@@ -15,12 +15,12 @@ use Rattle.board_rule.specs.OnBoard.{layout, table_of}
 use Rattle.ready_queues.specs.declared.way.Way.{Way}
 use Rattle.ready_queues.specs.declared.ways.Ways.{Ways}
 use Rattle.ready_queues.specs.AnsweredWith.{IsWayOf}
-use Rattle.node_progress.specs.declared.score.Score.{Score}
+use Rattle.node_progress.specs.declared.run_model.RunModel.{RunModel}
 use Rattle.data_loop.specs.declared.loop_state.LoopState.{LoopState}
 use Rattle.data_loop.specs.declared.member.Member.{Member}
-use Rattle.data_loop.specs.declared.stage.Stage.{Stage}
+use Rattle.data_loop.specs.declared.epoch_state.EpochState.{EpochState}
 use Rattle.data_loop.specs.Tries.{no_member}
-use Rattle.data_loop.specs.Loops.{plan_of, HasStage, IsLoop, IsBetweenEpochs}
+use Rattle.data_loop.specs.Loops.{plan_of, HasEpochState, IsLoop, IsBetweenEpochs}
 use Rattle.data_loop.specs.LoopsOnBoards.{IsOnBoard, IsSameBut, IsNextOf, IsFirstSeat}
 use Rattle.data_loop.specs.LoopKept.{IsDone}
 use Rattle.data_loop.specs.Settling.{HasLedAll}
@@ -43,10 +43,10 @@ loop_of boards s under = ⊎_elim
 -- on the board of its epoch, where one is left
 begun : (boards : List Board) (s : LoopState) → IsBetweenEpochs s → HasBoards s.epoch boards s → s.epoch < length (plan_of s).epochs
     → IsAmid boards s
-begun boards s between has low = let n = has.count in let m = between.loop.stages in
+begun boards s between has low = let n = has.count in let m = between.loop.epoch_states in
     let b = there boards s.epoch (omega (arith, low, n)) in
     let e = there (plan_of s).epochs s.epoch low in
-    let g = there s.stages.items s.epoch (omega (arith, low, m)) in record {
+    let g = there s.epoch_states.items s.epoch (omega (arith, low, m)) in record {
       board = b.0;
       here = b.1;
       on = begins s between (layout b.0) (table_of b.0) e.0 e.1 (has.shape s.epoch e.0 b.0 e.1 b.1) g.0 g.1
@@ -82,16 +82,16 @@ left boards s under ne = ⊎_elim
 -- a loop that has no driver has led all that it leads
 pub none_leads : (p : BoardLayout) (t : TableId) (s : LoopState) → IsOnBoard p t s → HasNoDriver s → HasLedAll p s
 none_leads p t s on none g here some = absurd (⊎_elim
-    (λ (no : length on.stage.driver < 1). some (same_driver ∙ nil_from_length on.stage.driver (omega (arith, no))))
-    (λ (one : 1 ≤ length on.stage.driver). let m : Member = get_or on.stage.driver 0 no_member in let low : 0 < length on.stage.driver = omega (arith, one) in
-    by m (0, low, get_or_default on.stage.driver 0 m no_member low))
-    (cases_lt (length on.stage.driver) 1))
+    (λ (no : length on.epoch_state.driver < 1). some (same_driver ∙ nil_from_length on.epoch_state.driver (omega (arith, no))))
+    (λ (one : 1 ≤ length on.epoch_state.driver). let m : Member = get_or on.epoch_state.driver 0 no_member in let low : 0 < length on.epoch_state.driver = omega (arith, one) in
+    by m (0, low, get_or_default on.epoch_state.driver 0 m no_member low))
+    (cases_lt (length on.epoch_state.driver) 1))
   where
-    same_driver : g.driver ≡ on.stage.driver
+    same_driver : g.driver ≡ on.epoch_state.driver
     same_driver = (on.loop.parts s.epoch on.stands.epoch g on.stands.at here).driver
-        ∙ sym (on.loop.parts s.epoch on.stands.epoch on.stage on.stands.at on.here).driver
+        ∙ sym (on.loop.parts s.epoch on.stands.epoch on.epoch_state on.stands.at on.here).driver
 
-    by : (m : Member) → Contains on.stage.driver m → ⊥
+    by : (m : Member) → Contains on.epoch_state.driver m → ⊥
     by m own = let f = of p t s on m own in
         let is : m.node ≡ on.stands.epoch.shape.driver = drives p t s on m own ∙ ap (λ (x : Shape). x.driver) on.stands.shape in
         none s.epoch on.stands.epoch on.stands.at
@@ -99,38 +99,38 @@ none_leads p t s on none g here some = absurd (⊎_elim
 
 -- from epoch to epoch
 module _ (boards : List Board) (s u w : LoopState) (same : IsSameBut s u) (next : IsNextOf u w) where
-  score : w.score ≡ s.score
-  score = next.score ∙ same.score
+  run_model : w.run_model ≡ s.run_model
+  run_model = next.run_model ∙ same.run_model
 
   nodes : w.nodes ≡ s.nodes
   nodes = next.nodes ∙ same.nodes
 
   boards_on : HasBoards (suc s.epoch) boards s → w.epoch ≡ s.epoch + 1 → HasBoards w.epoch boards w
   boards_on has at = record {
-    count = has.count ∙ ap (λ (x : Score). length x.plan.value.epochs) (sym score);
-    shape = λ j e b is here. has.shape j e b (ap (λ (x : Score). slice_get x.plan.value.epochs j) (sym score) ∙ is) here;
+    count = has.count ∙ ap (λ (x : RunModel). length x.plan.value.epochs) (sym run_model);
+    shape = λ j e b is here. has.shape j e b (ap (λ (x : RunModel). slice_get x.plan.value.epochs j) (sym run_model) ∙ is) here;
     seat = λ j b g past here have.
-        let stage : HasStage s j g = sym (same.stages j (λ e. omega (arith, e, past, at)))
-        ∙ ap (λ (l : List Stage). slice_get l j) (sym next.stages) ∙ have in
-        subst (λ (x : Score × List ℕ). IsFirstSeat x.0.plan.value x.0.waves.value j x.1 (layout b) (table_of b) g.seat)
-        (λ i. (sym score i, sym nodes i)) (has.seat j b g (omega (arith, past, at)) here stage);
+        let epoch_state : HasEpochState s j g = sym (same.epoch_states j (λ e. omega (arith, e, past, at)))
+        ∙ ap (λ (l : List EpochState). slice_get l j) (sym next.epoch_states) ∙ have in
+        subst (λ (x : RunModel × List ℕ). IsFirstSeat x.0.plan.value x.0.waves.value j x.1 (layout b) (table_of b) g.seat)
+        (λ i. (sym run_model i, sym nodes i)) (has.seat j b g (omega (arith, past, at)) here epoch_state);
   }
 
   pub next_under_way : HasBoards (suc s.epoch) boards s → IsBetweenEpochs w → w.epoch ≡ s.epoch + 1 → IsUnderWay boards w
   next_under_way has between at = inl (between, boards_on has at)
 
   pub next_same : IsSameLoop s w
-  next_same = record { score = score; nodes = nodes }
+  next_same = record { run_model = run_model; nodes = nodes }
 
 pub same_loop_refl : (s : LoopState) → IsSameLoop s s
-same_loop_refl s = record { score = refl; nodes = refl }
+same_loop_refl s = record { run_model = refl; nodes = refl }
 
 pub same_loop_on : (s t u : LoopState) → IsSameLoop s t → IsSameLoop t u → IsSameLoop s u
-same_loop_on s t u a b = record { score = b.score ∙ a.score; nodes = b.nodes ∙ a.nodes }
+same_loop_on s t u a b = record { run_model = b.run_model ∙ a.run_model; nodes = b.nodes ∙ a.nodes }
 
 pub none_on : (s t : LoopState) → IsSameLoop s t → HasNoDriver s → HasNoDriver t
-none_on s t same none = subst (λ (x : Score × List ℕ). (k : ℕ) (e : Epoch) → IsEpoch x.0.plan.value k e → ¬ (Contains x.1 e.shape.driver))
-    (λ i. (sym same.score i, sym same.nodes i)) none
+none_on s t same none = subst (λ (x : RunModel × List ℕ). (k : ℕ) (e : Epoch) → IsEpoch x.0.plan.value k e → ¬ (Contains x.1 e.shape.driver))
+    (λ i. (sym same.run_model i, sym same.nodes i)) none
 
 -- the way after a call that sends, receives or rests
 pub way_on : (ways : Ways) (s t : LoopState) (a b : Way) → t.nodes ≡ s.nodes → b.number ≡ a.number → IsWayOf ways b → IsWayFor ways s a

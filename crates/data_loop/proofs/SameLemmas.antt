@@ -3,13 +3,13 @@ use Rattle.std.proofs.Common.{◌≡◌, ◌≢◌, ℕ, ◌<◌, List, length, 
 use Rattle.node_state.specs.declared.node_state.NodeState.{NodeState}
 use Rattle.data_loop.specs.declared.member.Member.{Member}
 use Rattle.data_loop.specs.declared.rows.Rows.{Rows}
-use Rattle.data_loop.specs.declared.stage.Stage.{Stage}
+use Rattle.data_loop.specs.declared.epoch_state.EpochState.{EpochState}
 use Rattle.data_loop.specs.Rooms.{IsSameRoom}
-use Rattle.data_loop.specs.StageParts.{IsSameStage}
-use Rattle.data_loop.specs.Stages.{AreLeft}
+use Rattle.data_loop.specs.EpochStateParts.{IsSameEpochState}
+use Rattle.data_loop.specs.EpochStates.{AreLeft}
 use Rattle.data_loop.specs.Tries.{no_member}
 
-pub same_on : {g h i : Stage} → IsSameStage g h → IsSameStage h i → IsSameStage g i
+pub same_on : {g h i : EpochState} → IsSameEpochState g h → IsSameEpochState h i → IsSameEpochState g i
 same_on a b = record {
   members = b.members ∙ a.members;
   driver = b.driver ∙ a.driver;

@@ -11,28 +11,28 @@ use Rattle.board_rule.specs.declared.view.View.{View}
 use Rattle.board_rule.specs.Layout.{BoardLayout, last}
 use Rattle.data_loop.specs.declared.loop_state.LoopState.{LoopState}
 use Rattle.data_loop.specs.declared.member.Member.{Member}
-use Rattle.data_loop.specs.declared.stage.Stage.{Stage}
+use Rattle.data_loop.specs.declared.epoch_state.EpochState.{EpochState}
 use Rattle.data_loop.specs.LoopTurn.{next_in, has_left, is_behind, turn_order, HaveTried}
 use Rattle.data_loop.specs.Members.{members_of, drivers_of}
-use Rattle.data_loop.specs.Loops.{plan_of, HasStage}
+use Rattle.data_loop.specs.Loops.{plan_of, HasEpochState}
 use Rattle.data_loop.specs.LoopsOnBoards.{IsOnBoard, IsSameBut, HasTurnedOnce}
 use Rattle.data_loop.specs.declared.did.Did.TheVariants.{Idle}
 use Rattle.data_loop.specs.Settling.{HasLedAll, HasHadTurns, HasSettled}
 
 pub same_but_refl : (s : LoopState) → IsSameBut s s
 same_but_refl s = record {
-  score = refl;
+  run_model = refl;
   nodes = refl;
   epoch = refl;
-  stages = λ k ne. refl;
+  epoch_states = λ k ne. refl;
 }
 
 pub same_but_on : (s t u : LoopState) → IsSameBut s t → IsSameBut t u → IsSameBut s u
 same_but_on s t u a b = record {
-  score = b.score ∙ a.score;
+  run_model = b.run_model ∙ a.run_model;
   nodes = b.nodes ∙ a.nodes;
   epoch = b.epoch ∙ a.epoch;
-  stages = λ k ne. b.stages k (λ is. ne (is ∙ a.epoch)) ∙ a.stages k ne;
+  epoch_states = λ k ne. b.epoch_states k (λ is. ne (is ∙ a.epoch)) ∙ a.epoch_states k ne;
 }
 
 module _ (p : BoardLayout) (t : TableId) where
@@ -56,18 +56,18 @@ module _ (p : BoardLayout) (t : TableId) where
     e = a.stands.epoch
 
     at : IsEpoch (plan_of u) u.epoch e
-    at = (λ i. slice_get (same.score i).plan.value.epochs (same.epoch i)) ∙ a.stands.at
+    at = (λ i. slice_get (same.run_model i).plan.value.epochs (same.epoch i)) ∙ a.stands.at
 
-    pub same_driver : (g h : Stage) → HasStage s s.epoch g → HasStage u u.epoch h → h.driver ≡ g.driver
+    pub same_driver : (g h : EpochState) → HasEpochState s s.epoch g → HasEpochState u u.epoch h → h.driver ≡ g.driver
     same_driver g h here there = (b.loop.parts u.epoch e h at there).driver
-        ∙ (λ i. drivers_of (same.score i).plan.value (same.nodes i) e) ∙ sym (a.loop.parts s.epoch e g a.stands.at here).driver
+        ∙ (λ i. drivers_of (same.run_model i).plan.value (same.nodes i) e) ∙ sym (a.loop.parts s.epoch e g a.stands.at here).driver
 
-    pub same_members : (g h : Stage) → HasStage s s.epoch g → HasStage u u.epoch h → h.members ≡ g.members
+    pub same_members : (g h : EpochState) → HasEpochState s s.epoch g → HasEpochState u u.epoch h → h.members ≡ g.members
     same_members g h here there = (b.loop.parts u.epoch e h at there).members
-        ∙ (λ i. members_of (same.score i).plan.value (same.nodes i) e) ∙ sym (a.loop.parts s.epoch e g a.stands.at here).members
+        ∙ (λ i. members_of (same.run_model i).plan.value (same.nodes i) e) ∙ sym (a.loop.parts s.epoch e g a.stands.at here).members
 
     pub led_all_on : u.led ≡ s.led → HasLedAll p s → HasLedAll p u
-    led_all_on led all h there some = led ∙ all a.stage a.here (λ none. some (same_driver a.stage h a.here there ∙ none))
+    led_all_on led all h there some = led ∙ all a.epoch_state a.here (λ none. some (same_driver a.epoch_state h a.here there ∙ none))
 
 -- no member has cycles left where none was tried
 none_passes : (q : Member → Bool) (ms : List Member) → length (filter q ms) ≡ 0 → All (λ m. q m ≡ false) ms
@@ -124,20 +124,20 @@ all_ordered p v ms P h = let one = filter (is_behind p v ms) ms in let two = fil
 
 -- an idle turn that found no try too early
 module _ (p : BoardLayout) (t : TableId) (s u : LoopState) (before : IsOnBoard p t s) (turned : HasHadTurns p t s u) where
-  pub settled_by : All (λ m. next_in p turned.on.stage.seat.knows m.node ≡ last p) before.stage.members → HasSettled p t s u
+  pub settled_by : All (λ m. next_in p turned.on.epoch_state.seat.knows m.node ≡ last p) before.epoch_state.members → HasSettled p t s u
   settled_by h = let e = ended_here in record {
     turned = turned;
     ended = e;
     end = λ all. record {
       on = turned.on;
       ended = e;
-      led = led_all_on p t s u before turned.on turned.same turned.led all turned.on.stage turned.on.here;
+      led = led_all_on p t s u before turned.on turned.same turned.led all turned.on.epoch_state turned.on.here;
     };
   }
     where
-      ended_here : All (λ m. next_in p turned.on.stage.seat.knows m.node ≡ last p) turned.on.stage.members
-      ended_here = subst (All (λ m. next_in p turned.on.stage.seat.knows m.node ≡ last p))
-          (sym (same_members p t s u before turned.on turned.same before.stage turned.on.stage before.here turned.on.here))
+      ended_here : All (λ m. next_in p turned.on.epoch_state.seat.knows m.node ≡ last p) turned.on.epoch_state.members
+      ended_here = subst (All (λ m. next_in p turned.on.epoch_state.seat.knows m.node ≡ last p))
+          (sym (same_members p t s u before turned.on turned.same before.epoch_state turned.on.epoch_state before.here turned.on.here))
           h
 
 -- and after turns before it
@@ -156,7 +156,7 @@ nothing (x ∷ l) none = absurd (omega (arith, none))
 pub settled_idle : (p : BoardLayout) (t : TableId) (s u : LoopState) → IsOnBoard p t s → HasHadTurns p t s u → HasTurnedOnce p s Idle u
     → length u.found.items ≡ 0 → HasSettled p t s u
 settled_idle p t s u before turned did none = settled_by p t s u before turned
-    (all_ordered p before.stage.seat.knows before.stage.members (λ m. next_in p turned.on.stage.seat.knows m.node ≡ last p)
-    (none_left p before.stage.seat.knows turned.on.stage.seat.knows (turn_order p before.stage.seat.knows before.stage.members)
-    (subst (λ l. HaveTried p before.stage.seat.knows (turn_order p before.stage.seat.knows before.stage.members) l turned.on.stage.seat.knows)
-    (nothing u.found.items none) (did before.stage turned.on.stage before.here turned.on.here))))
+    (all_ordered p before.epoch_state.seat.knows before.epoch_state.members (λ m. next_in p turned.on.epoch_state.seat.knows m.node ≡ last p)
+    (none_left p before.epoch_state.seat.knows turned.on.epoch_state.seat.knows (turn_order p before.epoch_state.seat.knows before.epoch_state.members)
+    (subst (λ l. HaveTried p before.epoch_state.seat.knows (turn_order p before.epoch_state.seat.knows before.epoch_state.members) l turned.on.epoch_state.seat.knows)
+    (nothing u.found.items none) (did before.epoch_state turned.on.epoch_state before.here turned.on.here))))

@@ -19,7 +19,7 @@ use Rattle.board_rule.specs.Layout.{BoardLayout, first, last}
 use Rattle.board_rule.specs.buffers.SampleWords.{samples_in}
 use Rattle.board_rule.specs.buffers.EndViews.{pool_at}
 use Rattle.board_rule.specs.buffers.BlockSteps.{fill_cycle}
-use Rattle.node_progress.specs.declared.score.Score.{Score}
+use Rattle.node_progress.specs.declared.run_model.RunModel.{RunModel}
 use Rattle.data_loop.specs.turns.Ends.{reads_of}
 use Rattle.node_progress.specs.Standing.{Gives}
 use Rattle.data_loop.specs.working.Inputs.{links_of}
@@ -32,31 +32,31 @@ pub links_are : (shape : Shape) (n : ℕ) → links_of (inputs_of shape n) ≡ r
 links_are shape n = map_map (λ i. i.link) input_from (filter (λ e. e.1.to.node == n) (enumerate_from 0 shape.links))
 
 -- each pool of the node gets the row of its output
-module _ (score : Score) (p : BoardLayout) (e : Epoch) (shape : p.shape ≡ e.shape) (w : View) (c n first_output : ℕ)
-    (expect : w.expect ≡ epoch_rows score.plan.value score.waves.value e) (low : first p ≤ c) (high : c < last p)
-    (at : first_output ≡ input_count (kind_at score.plan.value n))
-    (before_left before_right left right : List ℤ) (gives_left : Gives score c n 0 before_left left)
-    (gives_right : Gives score c n 1 before_right right) where
-  row_of_port : (q o : ℕ) → q < length (pools_of p.shape) → fill_cycle p w q ≡ c → (row before : List ℤ) → Gives score c n o before row
-      → IsPoolFor score p n o before q → row ≡ samples_in p w.expect (fill_cycle p w q) q
+module _ (run_model : RunModel) (p : BoardLayout) (e : Epoch) (shape : p.shape ≡ e.shape) (w : View) (c n first_output : ℕ)
+    (expect : w.expect ≡ epoch_rows run_model.plan.value run_model.waves.value e) (low : first p ≤ c) (high : c < last p)
+    (at : first_output ≡ input_count (kind_at run_model.plan.value n))
+    (before_left before_right left right : List ℤ) (gives_left : Gives run_model c n 0 before_left left)
+    (gives_right : Gives run_model c n 1 before_right right) where
+  row_of_port : (q o : ℕ) → q < length (pools_of p.shape) → fill_cycle p w q ≡ c → (row before : List ℤ) → Gives run_model c n o before row
+      → IsPoolFor run_model p n o before q → row ≡ samples_in p w.expect (fill_cycle p w q) q
   row_of_port q o inside cycle row before gives is = let some = is.1 in ⊎_elim
       (λ none. absurd (omega (arith, none, some)))
-      (λ out. out ∙ ap (outputs score.plan.value score.waves.value c) (sym is.0)
-      ∙ sym (pool_row score.plan.value score.waves.value p e c q shape low high inside)
+      (λ out. out ∙ ap (outputs run_model.plan.value run_model.waves.value c) (sym is.0)
+      ∙ sym (pool_row run_model.plan.value run_model.waves.value p e c q shape low high inside)
       ∙ ap (λ t. samples_in p t c q) (sym expect)
       ∙ ap (λ k. samples_in p w.expect k q) (sym cycle))
       gives
 
   pub all_put : (pools : List ℕ)
       → ((q : ℕ) → Contains pools q → (q < length (pools_of p.shape)) × (fill_cycle p w q ≡ c)
-      × (IsPoolFor score p n 0 before_left q ⊎ IsPoolFor score p n 1 before_right q))
+      × (IsPoolFor run_model p n 0 before_left q ⊎ IsPoolFor run_model p n 1 before_right q))
       → AllPut p w first_output left right pools
   all_put pools h k d lt = let q : ℕ = get_or pools k d in let x = h q (k, lt, get_or_default pools k q d lt) in ⊎_elim
-      (λ a. let port : (pool_at p q).port.port ≡ input_count (kind_at score.plan.value n) + 0 = ap (λ (y : PortId). y.port) a.0 in
+      (λ a. let port : (pool_at p q).port.port ≡ input_count (kind_at run_model.plan.value n) + 0 = ap (λ (y : PortId). y.port) a.0 in
       cond-true ((pool_at p q).port.port == first_output) left right
       (eq-eqb (pool_at p q).port.port first_output (omega (arith, port, at)))
       ∙ row_of_port q 0 x.0 x.1 left before_left gives_left a)
-      (λ a. let port : (pool_at p q).port.port ≡ input_count (kind_at score.plan.value n) + 1 = ap (λ (y : PortId). y.port) a.0 in
+      (λ a. let port : (pool_at p q).port.port ≡ input_count (kind_at run_model.plan.value n) + 1 = ap (λ (y : PortId). y.port) a.0 in
       cond-false ((pool_at p q).port.port == first_output) left right
       (ne_eqb (pool_at p q).port.port first_output (λ z. omega (arith, z, port, at)))
       ∙ row_of_port q 1 x.0 x.1 right before_right gives_right a)

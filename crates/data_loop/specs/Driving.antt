@@ -13,7 +13,7 @@ use Rattle.board_rule.specs.activation.SeatNodes.{HasNode}
 use Rattle.board_rule.specs.activation.WorkSteps.{untold}
 use Rattle.activation_words.specs.Calls.{IsAwake}
 use Rattle.io_areas.specs.Ends.{IsReadUpTo}
-use Rattle.node_progress.specs.declared.score.Score.{Score}
+use Rattle.node_progress.specs.declared.run_model.RunModel.{RunModel}
 use Rattle.node_progress.specs.NodeStates.{IsWorkedIn}
 use Rattle.data_loop.specs.declared.member.Member.{Member}
 use Rattle.data_loop.specs.Members.{member_of}
@@ -36,13 +36,13 @@ pub record MayDrive (p : BoardLayout) (v : View) (c : ℕ) : Type 0 where
 
 -- the member is that of the driver's node, which works in the cycle c of epoch k, on the epoch's
 -- board
-pub record IsDriverPlayer (score : Score) (p : BoardLayout) (v : View) (k c : ℕ)
+pub record IsDriverPlayer (run_model : RunModel) (p : BoardLayout) (v : View) (k c : ℕ)
     (m : Member) : Type 0 where
-  pub works : IsWorkedIn score k c m.node
+  pub works : IsWorkedIn run_model k c m.node
   pub shape : p.shape ≡ works.epoch.shape
-  pub expect : v.expect ≡ epoch_rows score.plan.value score.waves.value works.epoch
+  pub expect : v.expect ≡ epoch_rows run_model.plan.value run_model.waves.value works.epoch
   pub driver : m.node ≡ p.shape.driver
-  pub member : m ≡ member_of score.plan.value works.epoch m.node m.at
+  pub member : m ≡ member_of run_model.plan.value works.epoch m.node m.at
 
 -- THE TURN: from the view v to the view w the driver's node has its Start and its Finish stored in
 -- the cycle c, and each link into it is read in c. The seat has forgotten what its last begin told;

@@ -12,7 +12,7 @@ use Rattle.board_rule.specs.Layout.{BoardLayout, first, last}
 use Rattle.board_rule.specs.buffers.EndViews.{link_at, pool_at, pool_of}
 use Rattle.board_rule.specs.buffers.ReaderSteps.{read_cycle}
 use Rattle.data_loop.specs.declared.inputs.Input.{Input}
-use Rattle.node_progress.specs.declared.score.Score.{Score}
+use Rattle.node_progress.specs.declared.run_model.RunModel.{RunModel}
 use Rattle.node_progress.specs.Standing.{wide_at}
 
 abbrev pub input_from : ℕ × ShapeLink → Input
@@ -23,24 +23,24 @@ abbrev pub inputs_of : Shape → ℕ → List Input
 inputs_of shape n = map input_from (filter (λ e. e.1.to.node == n) (enumerate_from 0 shape.links))
 
 -- the board is that of an epoch of the plan, and its samples are those of the cycle function
-pub record IsBoardOf (score : Score) (p : BoardLayout) (v : View) (e : Epoch) : Type 0 where
+pub record IsBoardOf (run_model : RunModel) (p : BoardLayout) (v : View) (e : Epoch) : Type 0 where
   pub shape : p.shape ≡ e.shape
-  pub expect : v.expect ≡ epoch_rows score.plan.value score.waves.value e
-  pub quantum : p.shape.quantum ≡ score.plan.value.quantum
+  pub expect : v.expect ≡ epoch_rows run_model.plan.value run_model.waves.value e
+  pub quantum : p.shape.quantum ≡ run_model.plan.value.quantum
   pub two : All (λ l. l.to.port < 2) p.shape.links
   pub channels : (l : ℕ) → l < length p.shape.links
       → (pool_at p (pool_of p l)).channels ≡ (link_at p l).channels
 
 -- the node n reads its inputs in the cycle c, on a board of the cycle's epoch; a and b are the
 -- widths of these inputs
-pub record ReadsInputs (is_driver : Bool) (score : Score) (p : BoardLayout) (v : View) (c n : ℕ)
-    (inputs : List Input) (a b : ℕ) : Type 0 where
+pub record ReadsInputs (is_driver : Bool) (run_model : RunModel) (p : BoardLayout) (v : View)
+    (c n : ℕ) (inputs : List Input) (a b : ℕ) : Type 0 where
   pub epoch : Epoch
-  pub here : epoch_at score.plan.value c ≡ Some epoch
-  pub board : IsBoardOf score p v epoch
+  pub here : epoch_at run_model.plan.value c ≡ Some epoch
+  pub board : IsBoardOf run_model p v epoch
   pub inside : (first p ≤ c) × (c < last p)
   pub inputs_are : inputs ≡ inputs_of p.shape n
   pub now : (l : ℕ) → l < length p.shape.links → (link_at p l).to.node ≡ n
       → read_cycle is_driver p v l ≡ c
-  pub first_width : a ≡ wide_at score.plan.value c n 0
-  pub second_width : b ≡ wide_at score.plan.value c n 1
+  pub first_width : a ≡ wide_at run_model.plan.value c n 0
+  pub second_width : b ≡ wide_at run_model.plan.value c n 1

@@ -4,14 +4,14 @@ pub mod turns
 pub mod Gathering
 pub mod Members
 pub mod Rooms
-pub mod Stages
+pub mod EpochStates
 pub mod Tries
 pub mod LoopTurn
-pub mod Fronts
+pub mod Progress
 pub mod LoopTries
 pub mod Settling
 pub mod LoopWay
-pub mod StageParts
+pub mod EpochStateParts
 pub mod Tables
 pub mod Loops
 pub mod LoopsOnBoards

@@ -24,14 +24,14 @@ IsDone s = IsBetweenEpochs s × (s.epoch ≡ length (plan_of s).epochs)
 -- of this node they are, whatever became of the states of others
 abbrev pub IsDoneWith : LoopState → ℕ → Type 0
 IsDoneWith s n = (j : ℕ) (d : NodeState) → j < length s.nodes → node_at s j ≡ n
-    → IsNodeAtEnd s.score n (slice_index_or s.states.items j d)
+    → IsNodeAtEnd s.run_model n (slice_index_or s.states.items j d)
 
 -- the stream is what the sink's state has kept; at the end of the run, the sink's whole stream
 abbrev pub Keeps : LoopState → ℕ → List ℤ → Type 0
 Keeps s n stream = (x : NodeState) × IsStateOf s n x × (stream ≡ kept_stream x)
 
 abbrev pub KeepsAtEnd : LoopState → ℕ → List ℤ → Type 0
-KeepsAtEnd s n stream = IsDone s → stream ≡ end_stream (plan_of s) s.score.waves.value n
+KeepsAtEnd s n stream = IsDone s → stream ≡ end_stream (plan_of s) s.run_model.waves.value n
 
 -- the number is the peak of all that the meter's state stands for; at the end of the run, that of
 -- the meter's whole stream
@@ -43,10 +43,10 @@ HasPeak s n peak = (x : NodeState) × IsStateOf s n x
 -- others' states are as they were, and all else of the loop is
 pub record HasTaken (s : LoopState) (n : ℕ) (stream : List ℤ) (t : LoopState) : Type 0 where
   pub keeps : Keeps s n stream
-  pub end : IsDoneWith s n → stream ≡ end_stream (plan_of s) s.score.waves.value n
+  pub end : IsDoneWith s n → stream ≡ end_stream (plan_of s) s.run_model.waves.value n
   pub others : (m : ℕ) → m ≢ n → IsDoneWith s m → IsDoneWith t m
   pub same : IsSameLoop s t
   pub states_alone : t ≡ record s { states = t.states }
 
 abbrev pub HasPeakAtEnd : LoopState → ℕ → ℕ → Type 0
-HasPeakAtEnd s n peak = IsDone s → peak ≡ peak_of (end_stream (plan_of s) s.score.waves.value n)
+HasPeakAtEnd s n peak = IsDone s → peak ≡ peak_of (end_stream (plan_of s) s.run_model.waves.value n)

@@ -8,17 +8,17 @@ use Rattle.data_loop.specs.declared.did.Did.{Did}
 use Rattle.data_loop.specs.declared.did.Did.TheVariants.{Ran, Idle}
 use Rattle.data_loop.specs.declared.loop_state.LoopState.{LoopState}
 use Rattle.data_loop.specs.declared.member.Member.{Member}
-use Rattle.data_loop.specs.declared.stage.Stage.{Stage}
+use Rattle.data_loop.specs.declared.epoch_state.EpochState.{EpochState}
 use Rattle.data_loop.specs.Tries.{member_at}
 use Rattle.data_loop.specs.LoopTurn.{next_in, HaveTried}
-use Rattle.data_loop.specs.Loops.{HasStage}
+use Rattle.data_loop.specs.Loops.{HasEpochState}
 
 -- of the members those that are the node: one, or none where it does not follow in the epoch
 abbrev pub members_at : ℕ → List Member → List Member
 members_at n members = filter (λ m. m.node == n) members
 
 -- the node is a cycle later; every other one is as before
-pub record HasRunAt (p : BoardLayout) (g : Stage) (n : ℕ) (h : Stage) : Type 0 where
+pub record HasRunAt (p : BoardLayout) (g : EpochState) (n : ℕ) (h : EpochState) : Type 0 where
   pub index : ℕ
   pub inside : index < length g.members
   pub node : (member_at g index).node ≡ n
@@ -28,7 +28,7 @@ pub record HasRunAt (p : BoardLayout) (g : Stage) (n : ℕ) (h : Stage) : Type 0
 
 -- THE ANSWER of a try of the node n: it ran, or nothing of it was done but for one try, where it
 -- follows and has cycles left, which found another word than TRIGGERED of its next cycle
-abbrev pub IsDidAt : BoardLayout → Stage → ℕ → Did → List (ℕ × ℕ) → Stage
+abbrev pub IsDidAt : BoardLayout → EpochState → ℕ → Did → List (ℕ × ℕ) → EpochState
     → Type 0
 IsDidAt p g n (Ran node) found h = (node ≡ n) × (found ≡ []) × HasRunAt p g n h
 IsDidAt p g n Idle found h =
@@ -36,13 +36,13 @@ IsDidAt p g n Idle found h =
 
 -- so it is of a loop
 abbrev pub HasTurnedAt : BoardLayout → ℕ → LoopState → Did → LoopState → Type 0
-HasTurnedAt p n s did t = (g h : Stage) → HasStage s s.epoch g → HasStage t t.epoch h
+HasTurnedAt p n s did t = (g h : EpochState) → HasEpochState s s.epoch g → HasEpochState t t.epoch h
     → IsDidAt p g n did t.found.items h
 
 -- THE WOKEN: the targets whose pending word the turn's finish took to 0; none after Idle
-abbrev pub IsWoke : Did → Stage → ℕ → Type 0
+abbrev pub IsWoke : Did → EpochState → ℕ → Type 0
 IsWoke (Ran node) h woke = woke ≡ woke_of h.seat.knows.trail.told
 IsWoke Idle h woke = woke ≡ 0
 
 abbrev pub HasWoken : Did → LoopState → Type 0
-HasWoken did t = (h : Stage) → HasStage t t.epoch h → IsWoke did h t.woke
+HasWoken did t = (h : EpochState) → HasEpochState t t.epoch h → IsWoke did h t.woke

@@ -10,7 +10,7 @@ use Rattle.board_rule.specs.View.{node_of}
 use Rattle.data_loop.specs.declared.did.Did.{Did}
 use Rattle.data_loop.specs.declared.did.Did.TheVariants.{Ran, Idle}
 use Rattle.data_loop.specs.declared.member.Member.{Member}
-use Rattle.data_loop.specs.declared.stage.Stage.{Stage}
+use Rattle.data_loop.specs.declared.epoch_state.EpochState.{EpochState}
 
 -- the next cycle of a node, and whether it has cycles left
 abbrev pub next_in : BoardLayout → View → ℕ → ℕ
@@ -47,9 +47,9 @@ pub record HaveTried (p : BoardLayout) (v : View) (members : List Member)
 
 -- of these members, in this order, one has run: those before it that had cycles left were tried,
 -- and it is a cycle later; every other one is as before
-pub record HasRun (p : BoardLayout) (g : Stage) (order : List Member) (n : ℕ)
+pub record HasRun (p : BoardLayout) (g : EpochState) (order : List Member) (n : ℕ)
     (found : List (ℕ × ℕ))
-    (h : Stage) : Type 0 where
+    (h : EpochState) : Type 0 where
   pub first : List Member
   pub member : Member
   pub rest : List Member
@@ -62,11 +62,11 @@ pub record HasRun (p : BoardLayout) (g : Stage) (order : List Member) (n : ℕ)
       → next_in p h.seat.knows x.node ≡ next_in p g.seat.knows x.node
 
 -- so it is of a turn in this order, or of a part of one
-abbrev pub HasGone : BoardLayout → Stage → List Member → Did → List (ℕ × ℕ)
-    → Stage → Type 0
+abbrev pub HasGone : BoardLayout → EpochState → List Member → Did → List (ℕ × ℕ)
+    → EpochState → Type 0
 HasGone p g order (Ran node) found h = HasRun p g order node found h
 HasGone p g order Idle found h = HaveTried p g.seat.knows order found h.seat.knows
 
 -- THE ANSWER of a turn, with the tries that it found to be too early
-abbrev pub IsDid : BoardLayout → Stage → Did → List (ℕ × ℕ) → Stage → Type 0
+abbrev pub IsDid : BoardLayout → EpochState → Did → List (ℕ × ℕ) → EpochState → Type 0
 IsDid p g did found h = HasGone p g (turn_order p g.seat.knows g.members) did found h

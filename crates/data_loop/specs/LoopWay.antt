@@ -12,8 +12,8 @@ use Rattle.ready_queues.specs.AnsweredWith.{IsWayOf}
 use Rattle.ready_queues.specs.QueueRule.{IsNodeOf}
 use Rattle.ready_queues.specs.Receiving.{HasRested}
 use Rattle.data_loop.specs.declared.loop_state.LoopState.{LoopState}
-use Rattle.data_loop.specs.declared.stage.Stage.{Stage}
-use Rattle.data_loop.specs.Loops.{plan_of, HasStage, IsBetweenEpochs}
+use Rattle.data_loop.specs.declared.epoch_state.EpochState.{EpochState}
+use Rattle.data_loop.specs.Loops.{plan_of, HasEpochState, IsBetweenEpochs}
 use Rattle.data_loop.specs.LoopsOnBoards.{IsOnBoard, IsFirstSeat}
 
 -- one board an epoch; of those from epoch k on the loop has a seat as the board gave it
@@ -21,9 +21,9 @@ pub record HasBoards (k : ℕ) (boards : List Board) (s : LoopState) : Type 0 wh
   pub count : length boards ≡ length (plan_of s).epochs
   pub shape : (j : ℕ) (e : Epoch) (b : Board) → IsEpoch (plan_of s) j e
       → slice_get boards j ≡ Some b → b.board_shape.shape ≡ e.shape
-  pub seat : (j : ℕ) (b : Board) (g : Stage) → k ≤ j → slice_get boards j ≡ Some b
-      → HasStage s j g
-      → IsFirstSeat (plan_of s) s.score.waves.value j s.nodes (layout b) (table_of b) g.seat
+  pub seat : (j : ℕ) (b : Board) (g : EpochState) → k ≤ j → slice_get boards j ≡ Some b
+      → HasEpochState s j g
+      → IsFirstSeat (plan_of s) s.run_model.waves.value j s.nodes (layout b) (table_of b) g.seat
 
 -- no node of the loop drives
 abbrev pub HasNoDriver : LoopState → Type 0
@@ -43,7 +43,7 @@ IsUnderWay boards s = (IsBetweenEpochs s × HasBoards s.epoch boards s) ⊎ IsAm
 
 -- the same plan, waves and nodes
 pub record IsSameLoop (s t : LoopState) : Type 0 where
-  pub score : t.score ≡ s.score
+  pub run_model : t.run_model ≡ s.run_model
   pub nodes : t.nodes ≡ s.nodes
 
 -- the way to the queues of a loop whose nodes by `owner` are nodes of the state

@@ -10,28 +10,28 @@ use Rattle.cycle_model.specs.WavesFit.{WavesFit}
 use Rattle.node_state.specs.declared.node_state.NodeState.{NodeState}
 use Rattle.node_progress.specs.NodeStates.{IsNodeState, first_of}
 use Rattle.data_loop.specs.declared.loop_state.LoopState.{LoopState}
-use Rattle.data_loop.specs.declared.stage.Stage.{Stage}
-use Rattle.data_loop.specs.StageParts.{IsStageOf, IsUnbegun, HasRoomIn}
+use Rattle.data_loop.specs.declared.epoch_state.EpochState.{EpochState}
+use Rattle.data_loop.specs.EpochStateParts.{IsEpochStateOf, IsUnbegun, HasRoomIn}
 use Rattle.data_loop.specs.Tables.{AreTables}
 
 abbrev pub plan_of : LoopState → Plan
-plan_of s = s.score.plan.value
+plan_of s = s.run_model.plan.value
 
 -- what the loop has in epoch k
-abbrev pub HasStage : LoopState → ℕ → Stage → Type 0
-HasStage s k g = slice_get s.stages.items k ≡ Some g
+abbrev pub HasEpochState : LoopState → ℕ → EpochState → Type 0
+HasEpochState s k g = slice_get s.epoch_states.items k ≡ Some g
 
 -- what stays of it in all calls
 pub record IsLoop (s : LoopState) : Type 0 where
   pub sound : IsSoundPlan (plan_of s)
-  pub waves : WavesFit (plan_of s) s.score.waves.value
+  pub waves : WavesFit (plan_of s) s.run_model.waves.value
   pub ascend : AllPairs (λ m n. m < n) s.nodes
   pub places : All (λ n. n < length (plan_of s).nodes) s.nodes
   pub states : length s.states.items ≡ length s.nodes
-  pub stages : length s.stages.items ≡ length (plan_of s).epochs
-  pub parts : (k : ℕ) (e : Epoch) (g : Stage) → IsEpoch (plan_of s) k e → HasStage s k g
-      → IsStageOf (plan_of s) s.nodes k e g
-  pub room : (k : ℕ) (g : Stage) → HasStage s k g → HasRoomIn s.rows g
+  pub epoch_states : length s.epoch_states.items ≡ length (plan_of s).epochs
+  pub parts : (k : ℕ) (e : Epoch) (g : EpochState) → IsEpoch (plan_of s) k e → HasEpochState s k g
+      → IsEpochStateOf (plan_of s) s.nodes k e g
+  pub room : (k : ℕ) (g : EpochState) → HasEpochState s k g → HasRoomIn s.rows g
   pub found_room : length s.nodes ≤ vec_capacity s.found
   pub tables : AreTables s.tables × (length s.tables ≡ length s.nodes + 1)
   pub few_found : length s.found.items ≤ length s.nodes
@@ -39,8 +39,8 @@ pub record IsLoop (s : LoopState) : Type 0 where
 
 -- in the epochs from k on no turn was made
 abbrev pub AreUnbegun : LoopState → ℕ → Type 0
-AreUnbegun s k = (i : ℕ) (e : Epoch) (g : Stage) → k ≤ i → IsEpoch (plan_of s) i e
-    → HasStage s i g → IsUnbegun e g
+AreUnbegun s k = (i : ℕ) (e : Epoch) (g : EpochState) → k ≤ i → IsEpoch (plan_of s) i e
+    → HasEpochState s i g → IsUnbegun e g
 
 -- the node at an index, and its state
 abbrev pub node_at : LoopState → ℕ → ℕ
@@ -48,7 +48,7 @@ node_at s j = slice_index s.nodes j
 
 abbrev pub StateIs : LoopState → ℕ → ℕ → Type 0
 StateIs s c j = (d : NodeState)
-    → IsNodeState s.score s.epoch c (node_at s j) (slice_index_or s.states.items j d)
+    → IsNodeState s.run_model s.epoch c (node_at s j) (slice_index_or s.states.items j d)
 
 -- BETWEEN TWO EPOCHS: `epoch` of them are done
 pub record IsBetweenEpochs (s : LoopState) : Type 0 where

@@ -5,14 +5,14 @@ use Rattle.std.specs.Prelude.{◌≡◌, ◌≢◌, [], All}
 use Rattle.atomic_table.specs.Seated.{TableId}
 use Rattle.board_rule.specs.Layout.{BoardLayout, last}
 use Rattle.data_loop.specs.declared.loop_state.LoopState.{LoopState}
-use Rattle.data_loop.specs.declared.stage.Stage.{Stage}
+use Rattle.data_loop.specs.declared.epoch_state.EpochState.{EpochState}
 use Rattle.data_loop.specs.LoopTurn.{next_in}
-use Rattle.data_loop.specs.Loops.{HasStage}
+use Rattle.data_loop.specs.Loops.{HasEpochState}
 use Rattle.data_loop.specs.LoopsOnBoards.{IsOnBoard, IsAtEnd, IsSameBut}
 
 -- the loop has led all cycles of the epoch, where the driver is a node of it that works
 abbrev pub HasLedAll : BoardLayout → LoopState → Type 0
-HasLedAll p s = (g : Stage) → HasStage s s.epoch g → g.driver ≢ []
+HasLedAll p s = (g : EpochState) → HasEpochState s s.epoch g → g.driver ≢ []
     → s.led ≡ p.shape.cycles
 
 -- AFTER TURNS: from s to u the loop has had turns on the board, and nothing else
@@ -25,6 +25,6 @@ pub record HasHadTurns (p : BoardLayout) (t : TableId) (s u : LoopState) : Type 
 -- has led all cycles, or that has no driver
 pub record HasSettled (p : BoardLayout) (t : TableId) (s u : LoopState) : Type 0 where
   pub turned : HasHadTurns p t s u
-  pub ended : All (λ m. next_in p turned.on.stage.seat.knows m.node ≡ last p)
-      turned.on.stage.members
+  pub ended : All (λ m. next_in p turned.on.epoch_state.seat.knows m.node ≡ last p)
+      turned.on.epoch_state.members
   pub end : HasLedAll p s → IsAtEnd p t u

@@ -6,7 +6,7 @@ use Rattle.board_rule.specs.Layout.{BoardLayout, last}
 use Rattle.board_rule.specs.View.{node_of}
 use Rattle.board_rule.specs.Steps.{tried}
 use Rattle.data_loop.specs.declared.member.Member.{Member}
-use Rattle.data_loop.specs.declared.stage.Stage.{Stage}
+use Rattle.data_loop.specs.declared.epoch_state.EpochState.{EpochState}
 use Rattle.data_loop.specs.declared.tried.Tried.{Tried}
 use Rattle.data_loop.specs.declared.tried.Tried.TheVariants.{Ended, NotYet, Ran}
 use Rattle.data_loop.specs.turns.Turning.{HasTurned}
@@ -25,11 +25,11 @@ no_member = record {
   right_width = 0;
 }
 
-abbrev pub member_at : Stage → ℕ → Member
+abbrev pub member_at : EpochState → ℕ → Member
 member_at g i = slice_index_or g.members i no_member
 
 -- a try of the node n
-abbrev pub HasTried : BoardLayout → Stage → ℕ → Tried → Stage → Type 0
+abbrev pub HasTried : BoardLayout → EpochState → ℕ → Tried → EpochState → Type 0
 HasTried p old n Ended new =
     ((node_of old.seat.knows (p.index n)).next ≡ last p) × (new.seat.knows ≡ old.seat.knows)
 HasTried p old n (NotYet found) new =

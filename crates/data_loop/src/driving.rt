@@ -8,54 +8,56 @@ ghost use Rattle.data_loop.specs.Driving.{HasNoLinkIn, MayDrive, IsDriverPlayer,
 
 use crate::gathering::gather;
 use crate::member::Member;
-use crate::moment::Moment;
 use crate::rows::Rows;
+use crate::turn_context::TurnContext;
 use activation_words::{finish, start};
 use board_rule::{Board, DriverSeat};
 use node_progress::{NodeCycle, work};
 use node_state::NodeState;
 use pw_outside::Gate;
 
-/// The turn of the driver's node that is awake in this moment, and works in it: Start, the gate,
+/// The turn of the driver's node that is awake in this cycle, and works in it: Start, the gate,
 /// all links into it read, one quantum processed, Finish. It has no outputs. Takes no memory, does
 /// not wait; one pass over a row for each link.
 /// Condition: the member is that of the driver's node.
 pub(crate) fn play_driver<G: Gate>(
-    moment: &Moment<'_>,
+    turn_context: &TurnContext<'_>,
     seat: &mut DriverSeat,
     member: &Member,
     state: &mut NodeState,
     rows: &mut Rows,
     gate: &G,
 )
-    requires pooled { IsPooledBoard (layout moment.now.board.now) }
-    requires table { IsOn moment.now.board.now seat.old.table }
-    requires player { IsDriverPlayer moment.now.score.now (layout moment.now.board.now)
-        seat.old.knows moment.now.epoch moment.now.cycle member.now }
-    requires awake { MayDrive (layout moment.now.board.now) seat.old.knows moment.now.cycle }
-    requires state { IsNodeState moment.now.score.now moment.now.epoch moment.now.cycle
-        member.now.node state.old }
+    requires pooled { IsPooledBoard (layout turn_context.now.board.now) }
+    requires table { IsOn turn_context.now.board.now seat.old.table }
+    requires player { IsDriverPlayer turn_context.now.run_model.now
+        (layout turn_context.now.board.now)
+        seat.old.knows turn_context.now.epoch turn_context.now.cycle member.now }
+    requires awake { MayDrive (layout turn_context.now.board.now) seat.old.knows
+        turn_context.now.cycle }
+    requires state { IsNodeState turn_context.now.run_model.now turn_context.now.epoch
+        turn_context.now.cycle member.now.node state.old }
     requires rows { HasRowsFor rows.old member.now }
     ensures table { seat.new.table ≡ seat.old.table }
-    ensures driven { let p = layout moment.now.board.now in
-        HasDriven p seat.old.knows moment.now.cycle seat.new.knows }
-    ensures state { IsNodeState moment.now.score.now moment.now.epoch (suc moment.now.cycle)
-        member.now.node state.new }
+    ensures driven { let p = layout turn_context.now.board.now in
+        HasDriven p seat.old.knows turn_context.now.cycle seat.new.knows }
+    ensures state { IsNodeState turn_context.now.run_model.now turn_context.now.epoch
+        (suc turn_context.now.cycle) member.now.node state.new }
     ensures rows { IsSameRoom rows.old rows.new }
 {
-    let board = moment.board;
+    let board = turn_context.board;
     let driver = board.shape().driver;
     start(board, seat, driver);
-    gate.enter(driver, moment.cycle);
-    gather(moment, seat, member, rows);
+    gate.enter(driver, turn_context.cycle);
+    gather(turn_context, seat, member, rows);
     let at = NodeCycle {
-        epoch: moment.epoch,
-        cycle: moment.cycle,
+        epoch: turn_context.epoch,
+        cycle: turn_context.cycle,
         node: member.node,
         a: &rows.a.as_slice()[..member.first_width],
         b: &rows.b.as_slice()[..member.second_width],
     };
-    work(moment.score, &at, state, &mut [], &mut []);
+    work(turn_context.run_model, &at, state, &mut [], &mut []);
     finish(board, seat, driver);
 }
 

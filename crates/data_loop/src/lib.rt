@@ -6,7 +6,9 @@
 
 mod did;
 mod driving;
-mod front;
+mod epoch_context;
+mod epoch_state;
+mod epoch_states;
 mod gathering;
 mod giving;
 mod inputs;
@@ -17,20 +19,18 @@ mod loop_state;
 mod loop_turn;
 mod member;
 mod members;
-mod moment;
 mod own_pools;
 mod passes;
 mod plan_pools;
 mod playing;
+mod progress;
 mod rooms;
 mod rows;
 mod running;
-mod scene;
 mod settling;
-mod stage;
-mod stages;
 mod tables;
 mod tried;
+mod turn_context;
 
 pub use did::Did;
 pub use driving::pass_driver;

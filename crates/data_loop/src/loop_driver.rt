@@ -3,11 +3,11 @@ ghost use Rattle.std.specs.Prelude.{◌≡◌, ◌⊎◌, ◌+◌, Contains};
 ghost use Rattle.board_rule.specs.OnBoard.{IsOn, layout, table_of};
 ghost use Rattle.data_loop.specs.Driving.{MayDrive, HasDriven};
 ghost use Rattle.data_loop.specs.LoopsOnBoards.{IsOnBoard, IsSameBut};
-ghost use Rattle.data_loop.specs.LoopDriver.{HasSamplesOf, DrivesFrom, IsTied, HasLed};
+ghost use Rattle.data_loop.specs.LoopDriver.{HasSamplesOf, DrivesFrom, HasLedSoFar, HasLed};
 
 use crate::driving::{pass_driver, play_driver};
 use crate::loop_state::LoopState;
-use crate::moment::Moment;
+use crate::turn_context::TurnContext;
 use board_rule::{Board, BoardSeat, DriverSeat};
 use pw_outside::Gate;
 
@@ -23,32 +23,32 @@ impl LoopState {
         requires samples { HasSamplesOf self.old seat.old.knows }
         requires awake { MayDrive (layout board.now) seat.old.knows seat.old.knows.lead.cycle }
         requires driver { DrivesFrom (layout board.now) self.old }
-        requires each { IsTied (layout board.now) self.old seat.old.knows }
+        requires each { HasLedSoFar (layout board.now) self.old seat.old.knows }
         ensures stands { IsOnBoard (layout board.now) (table_of board.now) self.new }
         ensures table { seat.new.table ≡ seat.old.table }
         ensures driven { let p = layout board.now in
             HasDriven p seat.old.knows seat.old.knows.lead.cycle seat.new.knows }
         ensures led { HasLed self.old self.new }
         ensures same { IsSameBut self.old self.new }
-        ensures stages { self.new.stages.items ≡ self.old.stages.items }
+        ensures epoch_states { self.new.epoch_states.items ≡ self.old.epoch_states.items }
         ensures woke { self.new.woke ≡ self.old.woke }
     {
         let driver = board.shape().driver;
         let cycle = board.shape().first + seat.ended(board, driver);
-        let stage = &self.stages[self.epoch as usize];
-        if stage.driver.len() == 0 {
+        let epoch_state = &self.epoch_states[self.epoch as usize];
+        if epoch_state.driver.len() == 0 {
             pass_driver(board, seat, cycle, gate);
             return;
         }
-        let member = &stage.driver.as_slice()[0];
-        let moment = Moment {
-            score: &self.score,
+        let member = &epoch_state.driver.as_slice()[0];
+        let turn_context = TurnContext {
+            run_model: &self.run_model,
             board,
             epoch: self.epoch,
             cycle,
         };
         play_driver(
-            &moment,
+            &turn_context,
             seat,
             member,
             &mut self.states[member.at as usize],

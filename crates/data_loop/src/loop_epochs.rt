@@ -5,28 +5,28 @@ ghost use Rattle.board_rule.specs.Layout.{BoardLayout};
 ghost use Rattle.node_state.specs.declared.node_state.NodeState.{NodeState};
 ghost use Rattle.node_progress.specs.NodeStates.{IsNodeState};
 ghost use Rattle.node_progress.specs.Restarts.{restart_of, next_first, IsEndOf};
-ghost use Rattle.data_loop.specs.StageParts.{restarts_in, restart_at};
+ghost use Rattle.data_loop.specs.EpochStateParts.{restarts_in, restart_at};
 ghost use Rattle.data_loop.specs.Loops.{IsBetweenEpochs, IsLoop, plan_of};
 ghost use Rattle.data_loop.specs.LoopsOnBoards.{IsAtEnd, IsNextOf};
 
+use crate::epoch_state::EpochState;
 use crate::loop_state::LoopState;
-use crate::stage::Stage;
-use node_progress::{Score, enter_next};
+use node_progress::{RunModel, enter_next};
 use node_state::NodeState;
 
 // With how many channels each node begins anew in an epoch; none after the last one.
-fn restarts_in(stages: &[Stage], epoch: u32) -> &[Option<u32>]
-    ensures { result.now ≡ restarts_in stages.now epoch }
+fn restarts_in(epoch_states: &[EpochState], epoch: u32) -> &[Option<u32>]
+    ensures { result.now ≡ restarts_in epoch_states.now epoch }
 {
-    match stages.get(epoch as usize) {
-        Some(stage) => stage.restarts.as_slice(),
+    match epoch_states.get(epoch as usize) {
+        Some(epoch_state) => epoch_state.restarts.as_slice(),
         None => &[],
     }
 }
 
 // The states of all nodes go into the next epoch, with its restarts.
 fn enter_all(
-    score: &Score,
+    run_model: &RunModel,
     epoch: u32,
     nodes: &[u32],
     states: &mut [NodeState],
@@ -34,15 +34,15 @@ fn enter_all(
 )
     requires count { length states.old ≡ length nodes.now }
     requires restarts { (j : ℕ) → j < length nodes.now → restart_at restarts.now j
-        ≡ restart_of score.now.plan.value (suc epoch) (slice_index nodes.now j) }
+        ≡ restart_of run_model.now.plan.value (suc epoch) (slice_index nodes.now j) }
     requires ended { (j : ℕ) → j < length nodes.now
-        → IsEndOf score.now epoch (next_first score.now.plan.value epoch)
+        → IsEndOf run_model.now epoch (next_first run_model.now.plan.value epoch)
         (slice_index nodes.now j) }
     requires states { (j : ℕ) (d : NodeState) → j < length nodes.now
-        → IsNodeState score.now epoch (next_first score.now.plan.value epoch)
+        → IsNodeState run_model.now epoch (next_first run_model.now.plan.value epoch)
         (slice_index nodes.now j) (slice_index_or states.old j d) }
     ensures states { (j : ℕ) (d : NodeState) → j < length nodes.now
-        → IsNodeState score.now (suc epoch) (next_first score.now.plan.value epoch)
+        → IsNodeState run_model.now (suc epoch) (next_first run_model.now.plan.value epoch)
         (slice_index nodes.now j) (slice_index_or states.new j d) }
 {
     for j in 0..nodes.len() {
@@ -50,7 +50,7 @@ fn enter_all(
             Some(restart) => *restart,
             None => None,
         };
-        enter_next(score, epoch, nodes[j], &mut states[j], restart);
+        enter_next(run_model, epoch, nodes[j], &mut states[j], restart);
     }
 }
 
@@ -67,11 +67,11 @@ impl LoopState {
     {
         let next = self.epoch + 1;
         enter_all(
-            &self.score,
+            &self.run_model,
             self.epoch,
             self.nodes.as_slice(),
             self.states.as_mut_slice(),
-            restarts_in(self.stages.as_slice(), next),
+            restarts_in(self.epoch_states.as_slice(), next),
         );
         self.epoch = next;
         self.led = 0;
@@ -83,7 +83,7 @@ impl LoopState {
         requires { IsLoop self.now }
         ensures { IsTrue result ↔ (self.now.epoch ≡ length (plan_of self.now).epochs) }
     {
-        self.epoch as usize == self.stages.len()
+        self.epoch as usize == self.epoch_states.len()
     }
 
     /// How many epochs are done: the number of the one that the loop is in.

@@ -6,14 +6,14 @@ ghost use Rattle.data_loop.specs.Loops.{IsBetweenEpochs};
 ghost use Rattle.data_loop.specs.LoopStart.{AreFirstStates, IsLoopOf};
 ghost use Rattle.data_loop.specs.PlanPools.{pools_in};
 
+use crate::epoch_state::EpochState;
+use crate::epoch_states::epoch_states_of;
 use crate::plan_pools::pools_in;
 use crate::rooms::{rows_of, widest_of};
 use crate::rows::Rows;
-use crate::stage::Stage;
-use crate::stages::stages_of;
 use crate::tables::{room_for, tables_of};
 use board_rule::LoopSeat;
-use node_progress::{Score, prepare_node};
+use node_progress::{RunModel, prepare_node};
 use node_state::NodeState;
 use pw_graph::{Plan, PoolShape};
 use pw_lists::{Items, Memory};
@@ -26,10 +26,10 @@ use wav_files::WavIn;
 /// It goes through the epochs in their order. On the board of one, each `turn` runs one follower;
 /// `next_epoch` leads to the next.
 pub struct LoopState {
-    pub(crate) score: Score,
+    pub(crate) run_model: RunModel,
     pub(crate) nodes: Items<u32>,
     pub(crate) states: Vec<NodeState>,
-    pub(crate) stages: Vec<Stage>,
+    pub(crate) epoch_states: Vec<EpochState>,
     pub(crate) rows: Rows,
     pub(crate) found: Vec<(u32, u64)>,
     pub(crate) tables: Items<Items<(u32, u64)>>,
@@ -44,10 +44,10 @@ pub struct LoopState {
 impl Drop for LoopState {
     fn drop(self) {
         let LoopState {
-            score: _,
+            run_model: _,
             nodes: _,
             states: _,
-            stages: _,
+            epoch_states: _,
             rows: _,
             found: _,
             tables: _,
@@ -61,21 +61,21 @@ impl Drop for LoopState {
 // The states of the nodes before the first cycle of the run.
 fn states_of(
     alloc: Global,
-    score: &Score,
+    run_model: &RunModel,
     plan: &Plan,
     waves: &Items<WavIn>,
     nodes: &[u32],
 ) -> Result<Items<NodeState>, Memory>
-    requires plan_is { score.now.plan.value ≡ plan.now }
-    requires waves_are { score.now.waves.value ≡ waves.now }
+    requires plan_is { run_model.now.plan.value ≡ plan.now }
+    requires waves_are { run_model.now.waves.value ≡ waves.now }
     requires sound { IsSoundPlan plan.now }
     requires fit { WavesFit plan.now waves.now }
     requires places { All (λ n. n < length plan.now.nodes) nodes.now }
-    ensures { IfOk result (AreFirstStates score.now nodes.now) }
+    ensures { IfOk result (AreFirstStates run_model.now nodes.now) }
 {
     let mut states = Items::new(alloc);
     for node in nodes {
-        states.push(prepare_node(alloc, score, plan, waves, *node)?)?;
+        states.push(prepare_node(alloc, run_model, plan, waves, *node)?)?;
     }
     Ok(states)
 }
@@ -123,18 +123,18 @@ impl LoopState {
         ensures of { IfOk result (IsLoopOf plan.now waves.now nodes.now seats) }
         ensures woke { IfOk result (λ s. s.woke ≡ 0) }
     {
-        let score = Score::of(plan, waves);
-        let stages = stages_of(alloc, plan, nodes.as_slice(), pools, seats)?;
-        let states = states_of(alloc, &score, plan, waves, nodes.as_slice())?;
-        let rows = rows_of(alloc, widest_of(stages.as_slice()))?;
+        let run_model = RunModel::of(plan, waves);
+        let epoch_states = epoch_states_of(alloc, plan, nodes.as_slice(), pools, seats)?;
+        let states = states_of(alloc, &run_model, plan, waves, nodes.as_slice())?;
+        let rows = rows_of(alloc, widest_of(epoch_states.as_slice()))?;
         let found = room_for(alloc, nodes.len())?;
         let tables = tables_of(alloc, nodes.len())?;
         let nodes = nodes.copy(alloc)?;
         Ok(LoopState {
-            score,
+            run_model,
             nodes,
             states: states.into_vec(),
-            stages: stages.into_vec(),
+            epoch_states: epoch_states.into_vec(),
             rows,
             found,
             tables,

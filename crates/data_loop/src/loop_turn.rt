@@ -6,8 +6,8 @@ ghost use Rattle.data_loop.specs.LoopsOnBoards.{IsOnBoard, HasTurnedOnce, IsSame
 ghost use Rattle.data_loop.specs.LoopTries.{HasTurnedAt, HasWoken};
 
 use crate::did::Did;
+use crate::epoch_context::EpochContext;
 use crate::loop_state::LoopState;
-use crate::scene::Scene;
 use crate::tables::tell;
 use board_rule::Board;
 use pw_lists::Items;
@@ -26,20 +26,20 @@ impl LoopState {
         ensures woke { HasWoken result self.new }
     {
         self.found.clear();
-        let scene = Scene {
-            score: &self.score,
+        let epoch_context = EpochContext {
+            run_model: &self.run_model,
             board,
             epoch: self.epoch,
         };
-        let did = self.stages[self.epoch as usize].turn(
-            &scene,
+        let did = self.epoch_states[self.epoch as usize].turn(
+            &epoch_context,
             self.states.as_mut_slice(),
             &mut self.rows,
             &mut self.found,
             gate,
         );
         tell(&mut self.tables, self.found.as_slice());
-        self.woke = self.stages[self.epoch as usize].woke(did);
+        self.woke = self.epoch_states[self.epoch as usize].woke(did);
         did
     }
 
@@ -55,13 +55,13 @@ impl LoopState {
         ensures woke { HasWoken result self.new }
     {
         self.found.clear();
-        let scene = Scene {
-            score: &self.score,
+        let epoch_context = EpochContext {
+            run_model: &self.run_model,
             board,
             epoch: self.epoch,
         };
-        let did = self.stages[self.epoch as usize].turn_at(
-            &scene,
+        let did = self.epoch_states[self.epoch as usize].turn_at(
+            &epoch_context,
             node,
             self.states.as_mut_slice(),
             &mut self.rows,
@@ -69,7 +69,7 @@ impl LoopState {
             gate,
         );
         tell(&mut self.tables, self.found.as_slice());
-        self.woke = self.stages[self.epoch as usize].woke(did);
+        self.woke = self.epoch_states[self.epoch as usize].woke(did);
         did
     }
 

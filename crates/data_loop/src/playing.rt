@@ -10,9 +10,9 @@ ghost use Rattle.data_loop.specs.working.Standings.{IsPlayer};
 use crate::gathering::gather;
 use crate::giving::give_all;
 use crate::member::Member;
-use crate::moment::Moment;
 use crate::own_pools::OwnPools;
 use crate::rows::Rows;
+use crate::turn_context::TurnContext;
 use activation_words::{finish, start};
 use board_rule::LoopSeat;
 use node_progress::{NodeCycle, work};
@@ -22,7 +22,7 @@ use pw_outside::Gate;
 // One cycle of the node's state, from rows of its inputs to rows of its outputs that may be longer
 // than these are wide.
 fn work_in(
-    moment: &Moment<'_>,
+    turn_context: &TurnContext<'_>,
     member: &Member,
     state: &mut NodeState,
     a: &[i16],
@@ -31,48 +31,56 @@ fn work_in(
     right: &mut [i16],
 )
     requires may { let m = member.now in
-        MayWork moment.now.score.now moment.now.epoch moment.now.cycle m.node state.old
-        (take m.first_width a.now) (take m.second_width b.now)
+        MayWork turn_context.now.run_model.now turn_context.now.epoch turn_context.now.cycle m.node
+        state.old (take m.first_width a.now) (take m.second_width b.now)
         (take m.left_width left.old) (take m.right_width right.old) }
     requires inputs { (member.now.first_width ≤ length a.now)
         × (member.now.second_width ≤ length b.now) }
     requires outputs { (member.now.left_width ≤ length left.old)
         × (member.now.right_width ≤ length right.old) }
-    ensures left { let m = member.now in Gives moment.now.score.now moment.now.cycle m.node 0
+    ensures left { let m = member.now in
+        Gives turn_context.now.run_model.now turn_context.now.cycle m.node 0
         (take m.left_width left.old) (take m.left_width left.new) }
-    ensures right { let m = member.now in Gives moment.now.score.now moment.now.cycle m.node 1
+    ensures right { let m = member.now in
+        Gives turn_context.now.run_model.now turn_context.now.cycle m.node 1
         (take m.right_width right.old) (take m.right_width right.new) }
-    ensures state { IsNodeState moment.now.score.now moment.now.epoch (suc moment.now.cycle)
-        member.now.node state.new }
+    ensures state { IsNodeState turn_context.now.run_model.now turn_context.now.epoch
+        (suc turn_context.now.cycle) member.now.node state.new }
 {
     let at = NodeCycle {
-        epoch: moment.epoch,
-        cycle: moment.cycle,
+        epoch: turn_context.epoch,
+        cycle: turn_context.cycle,
         node: member.node,
         a: &a[..member.first_width],
         b: &b[..member.second_width],
     };
     let left = &mut left[..member.left_width];
     let right = &mut right[..member.right_width];
-    work(moment.score, &at, state, left, right);
+    work(turn_context.run_model, &at, state, left, right);
 }
 
 // The same, in the rows of the loop.
-fn work_in_rows(moment: &Moment<'_>, member: &Member, state: &mut NodeState, rows: &mut Rows)
+fn work_in_rows(
+    turn_context: &TurnContext<'_>,
+    member: &Member,
+    state: &mut NodeState,
+    rows: &mut Rows,
+)
     requires may { let m = member.now in
-        MayWork moment.now.score.now moment.now.epoch moment.now.cycle m.node state.old
+        MayWork turn_context.now.run_model.now turn_context.now.epoch turn_context.now.cycle m.node
+        state.old
         (a_row rows.old m) (b_row rows.old m) (left_row rows.old m) (right_row rows.old m) }
     requires rows { HasRowsFor rows.old member.now }
-    ensures left { Gives moment.now.score.now moment.now.cycle member.now.node 0
+    ensures left { Gives turn_context.now.run_model.now turn_context.now.cycle member.now.node 0
         (left_row rows.old member.now) (left_row rows.new member.now) }
-    ensures right { Gives moment.now.score.now moment.now.cycle member.now.node 1
+    ensures right { Gives turn_context.now.run_model.now turn_context.now.cycle member.now.node 1
         (right_row rows.old member.now) (right_row rows.new member.now) }
-    ensures state { IsNodeState moment.now.score.now moment.now.epoch (suc moment.now.cycle)
-        member.now.node state.new }
+    ensures state { IsNodeState turn_context.now.run_model.now turn_context.now.epoch
+        (suc turn_context.now.cycle) member.now.node state.new }
     ensures rows { IsSameRoom rows.old rows.new }
 {
     work_in(
-        moment,
+        turn_context,
         member,
         state,
         rows.a.as_slice(),
@@ -82,11 +90,11 @@ fn work_in_rows(moment: &Moment<'_>, member: &Member, state: &mut NodeState, row
     );
 }
 
-/// The turn of a member that is awake in this moment: it starts, takes what its links bring, does
+/// The turn of a member that is awake in this cycle: it starts, takes what its links bring, does
 /// one quantum, gives in its pools what its outputs give, and finishes. `own` has the pools of its
 /// loop. Takes no memory, does not wait.
 pub(crate) fn play<G: Gate>(
-    moment: &Moment<'_>,
+    turn_context: &TurnContext<'_>,
     seat: &mut LoopSeat,
     member: &Member,
     own: &mut OwnPools,
@@ -94,27 +102,27 @@ pub(crate) fn play<G: Gate>(
     rows: &mut Rows,
     gate: &G,
 )
-    requires table { IsOn moment.now.board.now seat.old.table }
-    requires equipped { IsEquipped (layout moment.now.board.now) seat.old.knows own.old }
-    requires player { IsPlayer moment.now.score.now (layout moment.now.board.now) seat.old.knows
-        moment.now.epoch moment.now.cycle member.now }
-    requires awake { let p = layout moment.now.board.now in
+    requires table { IsOn turn_context.now.board.now seat.old.table }
+    requires equipped { IsEquipped (layout turn_context.now.board.now) seat.old.knows own.old }
+    requires player { IsPlayer turn_context.now.run_model.now (layout turn_context.now.board.now)
+        seat.old.knows turn_context.now.epoch turn_context.now.cycle member.now }
+    requires awake { let p = layout turn_context.now.board.now in
         MayTurn p seat.old.knows own.old (p.index member.now.node) }
-    requires state { IsNodeState moment.now.score.now moment.now.epoch moment.now.cycle
-        member.now.node state.old }
+    requires state { IsNodeState turn_context.now.run_model.now turn_context.now.epoch
+        turn_context.now.cycle member.now.node state.old }
     requires rows { HasRowsFor rows.old member.now }
     ensures table { seat.new.table ≡ seat.old.table }
-    ensures turned { let p = layout moment.now.board.now in
+    ensures turned { let p = layout turn_context.now.board.now in
         HasTurned p seat.old.knows own.old (p.index member.now.node) seat.new.knows own.new }
-    ensures state { IsNodeState moment.now.score.now moment.now.epoch (suc moment.now.cycle)
-        member.now.node state.new }
+    ensures state { IsNodeState turn_context.now.run_model.now turn_context.now.epoch
+        (suc turn_context.now.cycle) member.now.node state.new }
     ensures rows { IsSameRoom rows.old rows.new }
 {
-    let board = moment.board;
+    let board = turn_context.board;
     start(board, seat, member.node);
-    gate.enter(member.node, moment.cycle);
-    gather(moment, seat, member, rows);
-    work_in_rows(moment, member, state, rows);
+    gate.enter(member.node, turn_context.cycle);
+    gather(turn_context, seat, member, rows);
+    work_in_rows(turn_context, member, state, rows);
     give_all(
         board,
         seat,

@@ -1,11 +1,11 @@
 //! Rows that are long enough for all nodes of a loop.
 ghost use Rattle.std.specs.Prelude.{◌≡◌, ◌≤◌, All, IfOk, length};
 ghost use Rattle.data_loop.specs.Rooms.{IsWithin, AreAsLong};
-ghost use Rattle.data_loop.specs.StageParts.{IsStageWithin};
+ghost use Rattle.data_loop.specs.EpochStateParts.{IsEpochStateWithin};
 
+use crate::epoch_state::EpochState;
 use crate::member::Member;
 use crate::rows::Rows;
-use crate::stage::Stage;
 use pw_lists::{Items, Memory};
 use std::alloc::Global;
 
@@ -30,14 +30,14 @@ fn widest(members: &[Member], least: usize) -> usize
     most
 }
 
-/// The greatest width of a port of all members of the stages and of their drivers.
-pub(crate) fn widest_of(stages: &[Stage]) -> usize
-    ensures { All (IsStageWithin result) stages.now }
+/// The greatest width of a port of all members of the epoch states and of their drivers.
+pub(crate) fn widest_of(epoch_states: &[EpochState]) -> usize
+    ensures { All (IsEpochStateWithin result) epoch_states.now }
 {
     let mut most = 0;
-    for stage in stages {
-        most = widest(stage.members.as_slice(), most);
-        most = widest(stage.driver.as_slice(), most);
+    for epoch_state in epoch_states {
+        most = widest(epoch_state.members.as_slice(), most);
+        most = widest(epoch_state.driver.as_slice(), most);
     }
     most
 }

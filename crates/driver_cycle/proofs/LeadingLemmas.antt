@@ -13,7 +13,7 @@ use Rattle.board_rule.specs.activation.SeatNodes.{HasNode}
 use Rattle.board_rule.specs.activation.WorkSteps.{woken, tried}
 use Rattle.activation_words.specs.CycleCalls.{HasBegun, HasChecked, HasEnded}
 use Rattle.io_areas.specs.Ends.{IsReadUpTo}
-use Rattle.node_progress.specs.declared.score.Score.{Score}
+use Rattle.node_progress.specs.declared.run_model.RunModel.{RunModel}
 use Rattle.data_loop.proofs.turns.ReadingInputsLemmas.{read_moves}
 use Rattle.data_loop.specs.Driving.{IsDriverRead, MayDrive, HasDriven}
 use Rattle.driver_cycle.specs.Leading.{IsLeading, IsBetween, IsWaiting, HasEndedAll}
@@ -27,10 +27,10 @@ read_up_moves p v w c d rs hs e h l low is = subst (IsReadUpTo w l) (sym e)
     (ap (λ (x : List ReadView). slice_index_or x l (unread 0)) rs) (h l low is))
 
 -- a seat whose cycle, samples and reading ends are the same
-pub leads_on : (score : Score) (k : ℕ) (board : Board) (s t : Known) → t.table ≡ s.table → t.knows.expect ≡ s.knows.expect
+pub leads_on : (run_model : RunModel) (k : ℕ) (board : Board) (s t : Known) → t.table ≡ s.table → t.knows.expect ≡ s.knows.expect
     → t.knows.reads ≡ s.knows.reads → t.knows.words_read ≡ s.knows.words_read → t.knows.lead.cycle ≡ s.knows.lead.cycle
-    → IsLeading score k board s → IsLeading score k board t
-leads_on score k board s t table expect rs hs cycle h = record {
+    → IsLeading run_model k board s → IsLeading run_model k board t
+leads_on run_model k board s t table expect rs hs cycle h = record {
   epoch = h.epoch;
   at = h.at;
   shape = h.shape;
@@ -41,26 +41,26 @@ leads_on score k board s t table expect rs hs cycle h = record {
 }
 
 -- from a beginning, and from a check
-module _ (score : Score) (k : ℕ) (board : Board) (s t : Known) (table : t.table ≡ s.table) (h : IsLeading score k board s) where
-  pub begun_leads : HasBegun (layout board) s.knows t.knows → IsLeading score k board t
-  begun_leads b = leads_on score k board s t table (ap (λ (x : View). x.expect) b.is) (ap (λ (x : View). x.reads) b.is)
+module _ (run_model : RunModel) (k : ℕ) (board : Board) (s t : Known) (table : t.table ≡ s.table) (h : IsLeading run_model k board s) where
+  pub begun_leads : HasBegun (layout board) s.knows t.knows → IsLeading run_model k board t
+  begun_leads b = leads_on run_model k board s t table (ap (λ (x : View). x.expect) b.is) (ap (λ (x : View). x.reads) b.is)
       (ap (λ (x : View). x.words_read) b.is) (ap (λ (x : View). x.lead.cycle) b.is) h
 
-  pub checked_leads : (late : ℕ) → HasChecked (layout board) s.knows late t.knows → IsLeading score k board t
-  checked_leads late b = leads_on score k board s t table (ap (λ (x : View). x.expect) b.is) (ap (λ (x : View). x.reads) b.is)
+  pub checked_leads : (late : ℕ) → HasChecked (layout board) s.knows late t.knows → IsLeading run_model k board t
+  checked_leads late b = leads_on run_model k board s t table (ap (λ (x : View). x.expect) b.is) (ap (λ (x : View). x.reads) b.is)
       (ap (λ (x : View). x.words_read) b.is) (ap (λ (x : View). x.lead.cycle) b.is) h
 
   -- from a claim
-  pub woken_leads : t.knows ≡ woken true s.knows (layout board).driver → IsLeading score k board t
-  woken_leads e = leads_on score k board s t table (ap (λ (x : View). x.expect) e) (ap (λ (x : View). x.reads) e)
+  pub woken_leads : t.knows ≡ woken true s.knows (layout board).driver → IsLeading run_model k board t
+  woken_leads e = leads_on run_model k board s t table (ap (λ (x : View). x.expect) e) (ap (λ (x : View). x.reads) e)
       (ap (λ (x : View). x.words_read) e) (ap (λ (x : View). x.lead.cycle) e) h
 
-  pub tried_leads : (found : ℕ) → t.knows ≡ tried (layout board) s.knows (layout board).driver found → IsLeading score k board t
-  tried_leads found e = leads_on score k board s t table (ap (λ (x : View). x.expect) e) (ap (λ (x : View). x.reads) e)
+  pub tried_leads : (found : ℕ) → t.knows ≡ tried (layout board) s.knows (layout board).driver found → IsLeading run_model k board t
+  tried_leads found e = leads_on run_model k board s t table (ap (λ (x : View). x.expect) e) (ap (λ (x : View). x.reads) e)
       (ap (λ (x : View). x.words_read) e) (ap (λ (x : View). x.lead.cycle) e) h
 
-  pub same_leads : t.knows ≡ s.knows → IsLeading score k board t
-  same_leads e = leads_on score k board s t table (ap (λ (x : View). x.expect) e) (ap (λ (x : View). x.reads) e)
+  pub same_leads : t.knows ≡ s.knows → IsLeading run_model k board t
+  same_leads e = leads_on run_model k board s t table (ap (λ (x : View). x.expect) e) (ap (λ (x : View). x.reads) e)
       (ap (λ (x : View). x.words_read) e) (ap (λ (x : View). x.lead.cycle) e) h
 
 module _ (p : BoardLayout) (v w : View) where
@@ -120,10 +120,10 @@ module _ (p : BoardLayout) (v : View) (c : ℕ) (may : MayDrive p v c) (w : View
     }
 
 -- and it leads on the same board, in the next cycle
-pub concluded_leads : (score : Score) (k : ℕ) (board : Board) (s t u : Known) (c : ℕ) → MayDrive (layout board) s.knows c
+pub concluded_leads : (run_model : RunModel) (k : ℕ) (board : Board) (s t u : Known) (c : ℕ) → MayDrive (layout board) s.knows c
     → HasDriven (layout board) s.knows c t.knows → HasEnded (layout board) t.knows u.knows → u.table ≡ s.table
-    → IsLeading score k board s → IsLeading score k board u
-concluded_leads score k board s t u c may driven ended table h = record {
+    → IsLeading run_model k board s → IsLeading run_model k board u
+concluded_leads run_model k board s t u c may driven ended table h = record {
   epoch = h.epoch;
   at = h.at;
   shape = h.shape;

@@ -12,10 +12,10 @@ use Rattle.board_rule.specs.Layout.{BoardLayout, first, last}
 use Rattle.board_rule.specs.OnBoard.{layout, table_of}
 use Rattle.board_rule.specs.Known.{Known}
 use Rattle.activation_words.specs.CycleCalls.{HasBegun}
-use Rattle.node_progress.specs.declared.score.Score.{Score}
+use Rattle.node_progress.specs.declared.run_model.RunModel.{RunModel}
 use Rattle.data_loop.specs.declared.loop_state.LoopState.{LoopState}
 use Rattle.data_loop.specs.LoopsOnBoards.{IsOnBoard, IsSameBut}
-use Rattle.data_loop.specs.LoopDriver.{DrivesFrom, IsTied}
+use Rattle.data_loop.specs.LoopDriver.{DrivesFrom, HasLedSoFar}
 use Rattle.driver_cycle.specs.Leading.{IsLeading}
 use Rattle.driver_cycle.specs.Rounds.{HasLooked, IsLook}
 use Rattle.driver_cycle.specs.Concluding.{LooksOnce, IsClaimed}
@@ -46,17 +46,17 @@ pub concluded_cycle : (p : BoardLayout) (v : View) (m n : ℕ) (w : View) → Is
 concluded_cycle p v m n w h = ap (λ (x : View). x.lead.cycle) h.1.end.2 ∙ ap (λ c. c + 1) h.1.turn.cycle
 
 -- a loop that is the same but for turns
-pub leads_same : (board : Board) (s : Known) (x y : LoopState) → IsSameBut x y → IsLeading x.score x.epoch board s → IsLeading y.score y.epoch board s
-leads_same board s x y same h = subst (λ (z : Score × ℕ). IsLeading z.0 z.1 board s) (λ i. (sym same.score i, sym same.epoch i)) h
+pub leads_same : (board : Board) (s : Known) (x y : LoopState) → IsSameBut x y → IsLeading x.run_model x.epoch board s → IsLeading y.run_model y.epoch board s
+leads_same board s x y same h = subst (λ (z : RunModel × ℕ). IsLeading z.0 z.1 board s) (λ i. (sym same.run_model i, sym same.epoch i)) h
 
 pub drives_same : (p : BoardLayout) (x y : LoopState) → IsSameBut x y → DrivesFrom p x → DrivesFrom p y
 drives_same p x y same h = subst (λ (nodes : List ℕ). (p.shape.driver ≡ dummy_node) ⊎ Contains nodes p.shape.driver) (sym same.nodes) h
 
-pub tied_same : (p : BoardLayout) (t : TableId) (x y : LoopState) (v w : View) → IsOnBoard p t x → HasHadTurns p t x y → w.lead.cycle ≡ v.lead.cycle
-    → IsTied p x v → IsTied p y w
-tied_same p t x y v w on h cycle tied g here some =
+pub led_so_far_same : (p : BoardLayout) (t : TableId) (x y : LoopState) (v w : View) → IsOnBoard p t x → HasHadTurns p t x y → w.lead.cycle ≡ v.lead.cycle
+    → HasLedSoFar p x v → HasLedSoFar p y w
+led_so_far_same p t x y v w on h cycle led_so_far g here some =
     ap (λ n. first p + n) h.led
-    ∙ tied on.stage on.here (λ none. some (same_driver p t x y on h.on h.same on.stage g on.here here ∙ none))
+    ∙ led_so_far on.epoch_state on.here (λ none. some (same_driver p t x y on h.on h.same on.epoch_state g on.here here ∙ none))
     ∙ sym cycle
 
 -- the loops of a thread
@@ -99,13 +99,13 @@ module _ (board : Board) (s : Known) (own : LoopState) (adopted : List LoopState
 
 -- a cycle is begun
 pub begun_on : (board : Board) (s t : Known) (own : LoopState) (adopted : List LoopState) (m : ℕ) → IsThread board s own adopted
-    → IsLeading own.score own.epoch board t → HasBegun (layout board) s.knows t.knows → HasGoneOn board s own adopted m t own adopted m
+    → IsLeading own.run_model own.epoch board t → HasBegun (layout board) s.knows t.knows → HasGoneOn board s own adopted m t own adopted m
 begun_on board s t own adopted m h leads begun = record {
   thread = record {
     leads = leads;
     stands = h.stands;
     driver = h.driver;
-    tied = λ g here some. h.tied g here some ∙ sym (ap (λ (x : View). x.lead.cycle) begun.is);
+    led_so_far = λ g here some. h.led_so_far g here some ∙ sym (ap (λ (x : View). x.lead.cycle) begun.is);
     adopted_stand = h.adopted_stand;
   };
   same = same_but_refl own;
@@ -117,14 +117,14 @@ begun_on board s t own adopted m h leads begun = record {
 pub gone_round : (board : Board) (s t : Known) (own next third : LoopState) (adopted after : List LoopState) (m n : ℕ)
     → IsThread board s own adopted → HasHadTurns (layout board) (table_of board) own next
     → AreEach (HasHadTurns (layout board) (table_of board)) adopted after
-    → IsLeading next.score next.epoch board t → IsOnBoard (layout board) (table_of board) third → IsSameBut next third
-    → IsTied (layout board) third t.knows → HasLooked s t m n → HasGoneOn board s own adopted m t third after n
-gone_round board s t own next third adopted after m n h a b leads stands same tied looked = record {
+    → IsLeading next.run_model next.epoch board t → IsOnBoard (layout board) (table_of board) third → IsSameBut next third
+    → HasLedSoFar (layout board) third t.knows → HasLooked s t m n → HasGoneOn board s own adopted m t third after n
+gone_round board s t own next third adopted after m n h a b leads stands same led_so_far looked = record {
   thread = record {
     leads = leads_same board t next third same leads;
     stands = stands;
     driver = drives_same (layout board) own third (same_but_on own next third a.same same) h.driver;
-    tied = tied;
+    led_so_far = led_so_far;
     adopted_stand = each_stand (layout board) (table_of board) adopted after b;
   };
   same = same_but_on own next third a.same same;
@@ -133,8 +133,8 @@ gone_round board s t own next third adopted after m n h a b leads stands same ti
 }
 
 -- the end of the epoch: the loop has led all its cycles
-pub led_all : (p : BoardLayout) (x : LoopState) (v : View) → IsTied p x v → v.lead.cycle ≡ last p → HasLedAll p x
-led_all p x v tied end g here some = let t = tied g here some in omega (arith, t, end)
+pub led_all : (p : BoardLayout) (x : LoopState) (v : View) → HasLedSoFar p x v → v.lead.cycle ≡ last p → HasLedAll p x
+led_all p x v led_so_far end g here some = let t = led_so_far g here some in omega (arith, t, end)
 
 -- each loop has settled after the turns before it
 pub each_settled : (p : BoardLayout) (t : TableId) (old now new : List LoopState) → All (IsOnBoard p t) old
@@ -146,11 +146,11 @@ each_settled p t old now new on a b = let n = a.count in record {
 }
 
 -- a seat that leads the same epoch expects the same samples
-pub same_expect : (score : Score) (k : ℕ) (board : Board) (s t : Known) → IsLeading score k board s → IsLeading score k board t
+pub same_expect : (run_model : RunModel) (k : ℕ) (board : Board) (s t : Known) → IsLeading run_model k board s → IsLeading run_model k board t
     → t.knows.expect ≡ s.knows.expect
-same_expect score k board s t a b = b.expect
-    ∙ ap (epoch_rows score.plan.value score.waves.value) (same_Some b.epoch a.epoch (sym b.at ∙ a.at))
+same_expect run_model k board s t a b = b.expect
+    ∙ ap (epoch_rows run_model.plan.value run_model.waves.value) (same_Some b.epoch a.epoch (sym b.at ∙ a.at))
     ∙ sym a.expect
 
-pub leads_back : (board : Board) (s : Known) (x y : LoopState) → IsSameBut x y → IsLeading y.score y.epoch board s → IsLeading x.score x.epoch board s
-leads_back board s x y same h = subst (λ (z : Score × ℕ). IsLeading z.0 z.1 board s) (λ i. (same.score i, same.epoch i)) h
+pub leads_back : (board : Board) (s : Known) (x y : LoopState) → IsSameBut x y → IsLeading y.run_model y.epoch board s → IsLeading x.run_model x.epoch board s
+leads_back board s x y same h = subst (λ (z : RunModel × ℕ). IsLeading z.0 z.1 board s) (λ i. (same.run_model i, same.epoch i)) h

@@ -10,7 +10,7 @@ use Rattle.board_rule.specs.Known.{Known}
 use Rattle.board_rule.specs.OnBoard.{layout, table_of}
 use Rattle.data_loop.specs.declared.loop_state.LoopState.{LoopState}
 use Rattle.data_loop.specs.LoopsOnBoards.{IsOnBoard, IsSameBut}
-use Rattle.data_loop.specs.LoopDriver.{DrivesFrom, IsTied}
+use Rattle.data_loop.specs.LoopDriver.{DrivesFrom, HasLedSoFar}
 use Rattle.driver_cycle.specs.Leading.{IsLeading, IsBetween, IsWaiting}
 use Rattle.driver_cycle.specs.Rounds.{HasLooked}
 use Rattle.driver_cycle.specs.Settling.{HasHadTurns, AreEach}
@@ -19,10 +19,10 @@ use Rattle.driver_cycle.specs.Settling.{HasHadTurns, AreEach}
 -- driver is a node of its loop that works, this has led each cycle before the seat's
 pub record IsThread (board : Board) (seat : Known) (own : LoopState)
     (adopted : List LoopState) : Type 0 where
-  pub leads : IsLeading own.score own.epoch board seat
+  pub leads : IsLeading own.run_model own.epoch board seat
   pub stands : IsOnBoard (layout board) (table_of board) own
   pub driver : DrivesFrom (layout board) own
-  pub tied : IsTied (layout board) own seat.knows
+  pub led_so_far : HasLedSoFar (layout board) own seat.knows
   pub adopted_stand : All (IsOnBoard (layout board) (table_of board)) adopted
 
 -- GONE ON: from s, own and adopted to t, next and after the thread has gone through some rounds, in

@@ -2,10 +2,10 @@
 ghost use Rattle.std.specs.Prelude.{◌≡◌, ◌+◌, ℕ, All, false};
 ghost use Rattle.board_rule.specs.Layout.{last};
 ghost use Rattle.board_rule.specs.OnBoard.{IsOn, layout, table_of};
-ghost use Rattle.node_progress.specs.declared.score.Score.{Score};
+ghost use Rattle.node_progress.specs.declared.run_model.RunModel.{RunModel};
 ghost use Rattle.data_loop.specs.LoopWay.{IsDriverWay};
 ghost use Rattle.data_loop.specs.LoopsOnBoards.{IsOnBoard, IsAtEnd, IsSameBut};
-ghost use Rattle.data_loop.specs.LoopDriver.{DrivesFrom, IsTied};
+ghost use Rattle.data_loop.specs.LoopDriver.{DrivesFrom, HasLedSoFar};
 ghost use Rattle.driver_cycle.specs.Leading.{IsLeading, IsBetween, IsWaiting, IsDriving, HasEndedAll};
 ghost use Rattle.driver_cycle.specs.Rounds.{BeginsNext, HasLooked};
 ghost use Rattle.driver_cycle.specs.Settling.{HasSettled, AreEach};
@@ -89,8 +89,8 @@ fn begin_sent<R: Wait, G>(at: &Site<'_, R, G>, seat: &mut DriverSeat, way: &mut 
     ensures driving { IsDriving (layout at.now.board.now) seat.new.knows result }
     ensures unchecked { seat.new.knows.lead.checked ≡ false }
     ensures table { seat.new.table ≡ seat.old.table }
-    ensures leads { (score : Score) (k : ℕ) → IsLeading score k at.now.board.now seat.old
-        → IsLeading score k at.now.board.now seat.new }
+    ensures leads { (run_model : RunModel) (k : ℕ) → IsLeading run_model k at.now.board.now seat.old
+        → IsLeading run_model k at.now.board.now seat.new }
     ensures way { IsDriverWay at.now.ways.now way.new }
 {
     if !begin_next(at.board, seat) {
@@ -145,15 +145,15 @@ pub fn run_epoch<R: Wait, G: Gate, K: Ticker>(
     ticker: &mut K,
     gate: &G,
 )
-    requires leads { IsLeading own.old.score own.old.epoch board.now seat.old }
+    requires leads { IsLeading own.old.run_model own.old.epoch board.now seat.old }
     requires between { IsBetween (layout board.now) seat.old.knows }
     requires stands { IsOnBoard (layout board.now) (table_of board.now) own.old }
     requires driver { DrivesFrom (layout board.now) own.old }
-    requires tied { IsTied (layout board.now) own.old seat.old.knows }
+    requires led_so_far { HasLedSoFar (layout board.now) own.old seat.old.knows }
     requires adopted { All (IsOnBoard (layout board.now) (table_of board.now)) adopted.old }
     requires way { IsDriverWay ways.now way.old }
     ensures ended { HasEndedAll (layout board.now) seat.new.knows }
-    ensures leads { IsLeading own.old.score own.old.epoch board.now seat.new }
+    ensures leads { IsLeading own.old.run_model own.old.epoch board.now seat.new }
     ensures table { seat.new.table ≡ seat.old.table }
     ensures expect { seat.new.knows.expect ≡ seat.old.knows.expect }
     ensures end { IsAtEnd (layout board.now) (table_of board.now) own.new }

@@ -1,10 +1,10 @@
 //! One claim of the driver's node.
 ghost use Rattle.std.specs.Prelude.{◌≡◌, ℕ, not};
 ghost use Rattle.board_rule.specs.OnBoard.{IsOn, layout, table_of};
-ghost use Rattle.node_progress.specs.declared.score.Score.{Score};
+ghost use Rattle.node_progress.specs.declared.run_model.RunModel.{RunModel};
 ghost use Rattle.data_loop.specs.Driving.{MayDrive};
 ghost use Rattle.data_loop.specs.LoopsOnBoards.{IsOnBoard, IsSameBut};
-ghost use Rattle.data_loop.specs.LoopDriver.{DrivesFrom, IsTied};
+ghost use Rattle.data_loop.specs.LoopDriver.{DrivesFrom, HasLedSoFar};
 ghost use Rattle.driver_cycle.specs.Leading.{IsLeading, IsBetween, IsWaiting, IsDriving};
 ghost use Rattle.driver_cycle.specs.Rounds.{HasLooked};
 ghost use Rattle.driver_cycle.specs.Concluding.{HasConcluded, LooksOnce, IsClaimed};
@@ -17,17 +17,17 @@ use pw_outside::{Gate, Ticker};
 
 // The turn of the driver's node, which is awake, and the end of the cycle.
 fn conclude<G: Gate>(board: &Board, seat: &mut DriverSeat, own: &mut LoopState, gate: &G)
-    requires leads { IsLeading own.old.score own.old.epoch board.now seat.old }
+    requires leads { IsLeading own.old.run_model own.old.epoch board.now seat.old }
     requires awake { MayDrive (layout board.now) seat.old.knows seat.old.knows.lead.cycle }
     requires stands { IsOnBoard (layout board.now) (table_of board.now) own.old }
     requires driver { DrivesFrom (layout board.now) own.old }
-    requires tied { IsTied (layout board.now) own.old seat.old.knows }
-    ensures leads { IsLeading own.old.score own.old.epoch board.now seat.new }
+    requires led_so_far { HasLedSoFar (layout board.now) own.old seat.old.knows }
+    ensures leads { IsLeading own.old.run_model own.old.epoch board.now seat.new }
     ensures concluded { HasConcluded (layout board.now) seat.old.knows seat.new.knows }
     ensures between { IsBetween (layout board.now) seat.new.knows }
     ensures stands { IsOnBoard (layout board.now) (table_of board.now) own.new }
     ensures same { IsSameBut own.old own.new }
-    ensures tied { IsTied (layout board.now) own.new seat.new.knows }
+    ensures led_so_far { HasLedSoFar (layout board.now) own.new seat.new.knows }
 {
     own.run_driver(board, seat, gate);
     end(board, seat);
@@ -45,8 +45,8 @@ fn look_once<K: Ticker>(board: &Board, seat: &mut DriverSeat, checked: &mut bool
     ensures checked { checked.new ≡ seat.new.knows.lead.checked }
     ensures cycle { seat.new.knows.lead.cycle ≡ seat.old.knows.lead.cycle }
     ensures table { seat.new.table ≡ seat.old.table }
-    ensures leads { (score : Score) (k : ℕ) → IsLeading score k board.now seat.old
-        → IsLeading score k board.now seat.new }
+    ensures leads { (run_model : RunModel) (k : ℕ) → IsLeading run_model k board.now seat.old
+        → IsLeading run_model k board.now seat.new }
 {
     if *checked {
         return;
@@ -69,19 +69,19 @@ pub fn lead_once<G: Gate, K: Ticker>(
     ticker: &mut K,
     gate: &G,
 ) -> bool
-    requires leads { IsLeading own.old.score own.old.epoch board.now seat.old }
+    requires leads { IsLeading own.old.run_model own.old.epoch board.now seat.old }
     requires waits { IsWaiting (layout board.now) seat.old.knows }
     requires stands { IsOnBoard (layout board.now) (table_of board.now) own.old }
     requires driver { DrivesFrom (layout board.now) own.old }
-    requires tied { IsTied (layout board.now) own.old seat.old.knows }
+    requires led_so_far { HasLedSoFar (layout board.now) own.old seat.old.knows }
     requires checked { checked.old ≡ seat.old.knows.lead.checked }
     ensures claimed { IsClaimed result (layout board.now) seat.old.knows
         (K.ticks ticker.old) (K.ticks ticker.new) seat.new.knows }
-    ensures leads { IsLeading own.old.score own.old.epoch board.now seat.new }
+    ensures leads { IsLeading own.old.run_model own.old.epoch board.now seat.new }
     ensures driving { IsDriving (layout board.now) seat.new.knows (not result) }
     ensures stands { IsOnBoard (layout board.now) (table_of board.now) own.new }
     ensures same { IsSameBut own.old own.new }
-    ensures tied { IsTied (layout board.now) own.new seat.new.knows }
+    ensures led_so_far { HasLedSoFar (layout board.now) own.new seat.new.knows }
     ensures checked { checked.new ≡ seat.new.knows.lead.checked }
     ensures looked { HasLooked seat.old seat.new (K.ticks ticker.old) (K.ticks ticker.new) }
 {

@@ -1,7 +1,7 @@
 //! The calls of the driver's thread that no loop is needed for.
 ghost use Rattle.std.specs.Prelude.{◌≡◌, ℕ, false};
 ghost use Rattle.board_rule.specs.OnBoard.{IsOn, layout};
-ghost use Rattle.node_progress.specs.declared.score.Score.{Score};
+ghost use Rattle.node_progress.specs.declared.run_model.RunModel.{RunModel};
 ghost use Rattle.driver_cycle.specs.Leading.{IsLeading, IsBetween, IsWaiting, IsDriving};
 ghost use Rattle.driver_cycle.specs.Rounds.{BeginsNext, IsLook, HasLooked};
 
@@ -19,8 +19,8 @@ pub fn begin_next(board: &Board, seat: &mut DriverSeat) -> bool
     ensures driving { IsDriving (layout board.now) seat.new.knows result }
     ensures unchecked { seat.new.knows.lead.checked ≡ false }
     ensures table { seat.new.table ≡ seat.old.table }
-    ensures leads { (score : Score) (k : ℕ) → IsLeading score k board.now seat.old
-        → IsLeading score k board.now seat.new }
+    ensures leads { (run_model : RunModel) (k : ℕ) → IsLeading run_model k board.now seat.old
+        → IsLeading run_model k board.now seat.new }
 {
     let driver = board.shape().driver;
     if seat.ended(board, driver) == board.shape().cycles {
@@ -43,8 +43,8 @@ pub fn look<K: Ticker>(board: &Board, seat: &mut DriverSeat, ticker: &mut K) -> 
     ensures looked { HasLooked seat.old seat.new (K.ticks ticker.old) (K.ticks ticker.new) }
     ensures waits { IsWaiting (layout board.now) seat.new.knows }
     ensures table { seat.new.table ≡ seat.old.table }
-    ensures leads { (score : Score) (k : ℕ) → IsLeading score k board.now seat.old
-        → IsLeading score k board.now seat.new }
+    ensures leads { (run_model : RunModel) (k : ℕ) → IsLeading run_model k board.now seat.old
+        → IsLeading run_model k board.now seat.new }
 {
     if ticker.due() {
         Some(check_late(board, seat))

@@ -20,8 +20,8 @@ use Rattle.graph_run.specs.declared.ended.EndedRun.{EndedRun}
 use Rattle.graph_run.specs.Assignment.{loop_of}
 use Rattle.graph_run.specs.Seating.{epoch_board}
 use Rattle.graph_run.specs.PlanRun.{IsRunOf}
-use Rattle.graph_run.specs.RunStages.{CanRunAlone, HasRunAlone}
-use Rattle.graph_run.proofs.RunStagesLemmas.{can_run, ended_of, boards_by}
+use Rattle.graph_run.specs.RunStates.{CanRunAlone, HasRunAlone}
+use Rattle.graph_run.proofs.RunStatesLemmas.{can_run, ended_of, boards_by}
 use Rattle.pw_graph.specs.declared.parts.Part.{Part}
 use Rattle.driver_groups.specs.declared.crew.PlacedRun.{PlacedRun}
 use Rattle.driver_groups.specs.GroupRun.{IsPartRun, AreRunsOf}

@@ -2,7 +2,7 @@
 //! the first part and with those that have no thread.
 ghost use Rattle.std.specs.Prelude.{◌≡◌, ◌≤◌, ◌∷◌, ◌++◌, [], All, length};
 ghost use Rattle.std.specs.List.{AllZip};
-ghost use Rattle.graph_run.specs.RunStages.{CanRunAlone, HasRunAlone};
+ghost use Rattle.graph_run.specs.RunStates.{CanRunAlone, HasRunAlone};
 ghost use Rattle.driver_groups.specs.working.Crew.{merged};
 
 use crew_run::{Crew, Work};
@@ -43,7 +43,7 @@ pub(crate) struct LeadEnd {
 }
 
 impl Work<PlacedRun, EndedRun> for Shared {
-    ghost use Rattle.graph_run.specs.RunStages.{CanRunAlone, HasRunAlone};
+    ghost use Rattle.graph_run.specs.RunStates.{CanRunAlone, HasRunAlone};
 
     ghost number_of = { λ given. given.place };
 
@@ -107,7 +107,7 @@ fn merge(
 impl Crew<PlacedRun, EndedRun> for Shared {
     ghost use Rattle.std.specs.Prelude.{◌≤◌, ℕ, List, All, length};
     ghost use Rattle.crew_run.specs.Dealt.{AreDealt};
-    ghost use Rattle.graph_run.specs.RunStages.{CanRunAlone, HasRunAlone};
+    ghost use Rattle.graph_run.specs.RunStates.{CanRunAlone, HasRunAlone};
     ghost use Rattle.driver_groups.specs.declared.crew.LeadStart.{LeadStart};
     ghost use Rattle.driver_groups.specs.declared.crew.PlacedRun.{PlacedRun};
     ghost use Rattle.driver_groups.specs.working.Crew.{CanLead, HasLedFirst, HaveEnded};

@@ -9,7 +9,7 @@ use Rattle.std.proofs.lemmas.Nat.{from_be_bytes-to_be_bytes_4, from_be_bytes-to_
 use Rattle.pod_codec.specs.DumpWords.{hex_digits, hex}
 use Rattle.dump_reading.specs.working.Bytes.{digit_said, byte_of, byte_said, onto, hex_said, four_said, eight_said, float_said, double_said}
 use Rattle.dump_reading.specs.working.Bytes.{inner_of, unquoted, quoted_hex_said}
-use Rattle.dump_reading.specs.Sayable.{AreBytes}
+use Rattle.dump_reading.specs.WellFormed.{AreBytes}
 use Rattle.dump_reading.proofs.CuttingLemmas.{is_free, free_both, cut_back}
 
 -- the digit of a number

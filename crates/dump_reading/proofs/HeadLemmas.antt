@@ -21,7 +21,7 @@ use Rattle.dump_reading.specs.working.Cutting.{cut_at}
 use Rattle.dump_reading.specs.working.Names.{scalar_name, wide_name, holder_name, name_said, kind_said}
 use Rattle.dump_reading.specs.working.Heads.{args_said, named, choice_in, choice_with, head_in, head_said}
 use Rattle.dump_reading.specs.working.Numbers.{triple_said}
-use Rattle.dump_reading.specs.Sayable.{IsSaid}
+use Rattle.dump_reading.specs.WellFormed.{IsWellFormedBy}
 use Rattle.dump_reading.specs.declared.heads.Head.{Head}
 use Rattle.dump_reading.specs.declared.heads.Head.TheVariants as H
 use Rattle.dump_reading.specs.declared.names.Name.{Name}
@@ -85,7 +85,7 @@ said_choice kind flags child n f c l =
     ap choice_in (cut_back 32 (kind_word kind) rest (kind_free kind))
     ∙ (λ i. choice_with (kind_back kind i) (three i))
 
-pub head_back : (Held : Pod → Type 0) (v : Pod-F Pod Control Prop) → IsSaid Held v → head_said (lines_at v).head ≡ Some (headed v)
+pub head_back : (Held : Pod → Type 0) (v : Pod-F Pod Control Prop) → IsWellFormedBy Held v → head_said (lines_at v).head ≡ Some (headed v)
 unfolding head_said args_said name_said scalar_name wide_name holder_name cut_at two_numbered roll-Pod denote.Hole.Carrier.roll
 head_back Held Pod-F.None h = refl
 head_back Held (Pod-F.Bool true) h = said_behind (codes "bool") (codes "true") N.Bool (H.Leaf (P.Bool true)) refl refl refl
@@ -156,7 +156,7 @@ free_pair mark a b m h k = free_both 10 (decimal a) (mark ∷ decimal b) (free_n
 free_triple : (a b c : ℕ) → a < 2 ^ 32 → b < 2 ^ 32 → c < 2 ^ 32 → is_free 10 ((decimal a ++ 32 ∷ decimal b) ++ 32 ∷ decimal c) ≡ true
 free_triple a b c h k l = free_both 10 (decimal a ++ 32 ∷ decimal b) (32 ∷ decimal c) (free_pair 32 a b refl h k) (free_number c l)
 
-pub head_free : (Held : Pod → Type 0) (v : Pod-F Pod Control Prop) → IsSaid Held v → is_free 10 (lines_at v).head ≡ true
+pub head_free : (Held : Pod → Type 0) (v : Pod-F Pod Control Prop) → IsWellFormedBy Held v → is_free 10 (lines_at v).head ≡ true
 unfolding two_numbered
 head_free Held Pod-F.None h = refl
 head_free Held (Pod-F.Bool true) h = refl

@@ -7,7 +7,7 @@ use Rattle.std.proofs.lemmas.Bool.{and_parts, and_from, leb-true, ne_eqb, not-tr
 use Rattle.std.proofs.lemmas.List.Concat.{flat_map-cons}
 use Rattle.pod_codec.specs.DumpWords.{is_plain, escaped, hex_digits}
 use Rattle.dump_reading.specs.working.Strings.{high_of, low_of, pushed, read_byte, whole, string_said, quoted_said}
-use Rattle.dump_reading.specs.Sayable.{AreBytes}
+use Rattle.dump_reading.specs.WellFormed.{AreBytes}
 use Rattle.dump_reading.specs.declared.strings.Escape.{Escape}
 use Rattle.dump_reading.specs.declared.strings.Escape.TheVariants as E
 use Rattle.dump_reading.proofs.CuttingLemmas.{is_free, free_both}

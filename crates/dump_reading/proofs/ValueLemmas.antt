@@ -21,7 +21,7 @@ use Rattle.dump_reading.specs.working.Keyed.{behind_word, numbers_said, numbers_
 use Rattle.dump_reading.specs.working.Keyed.{control_with, control_said}
 use Rattle.dump_reading.specs.working.Lines.{line_said, many}
 use Rattle.dump_reading.specs.working.Numbers.{pair_said}
-use Rattle.dump_reading.specs.Sayable.{IsElement, IsLeafSaid, IsSaid, IsSayable}
+use Rattle.dump_reading.specs.WellFormed.{IsElement, IsWellFormedLeaf, IsWellFormedBy, IsWellFormed}
 use Rattle.dump_reading.specs.Values.{element_in, element_line, element_said, may_hold, held_said, value_in, value_line, value_said, alone, pod_said}
 use Rattle.dump_reading.specs.declared.heads.Head.{Head}
 use Rattle.dump_reading.specs.declared.heads.Head.TheVariants as H
@@ -39,7 +39,7 @@ first_line level l more h =
     ∙ line_back level l.head (l.held (level + 1) ++ more) h
 
 -- values that hold no others
-leaf_said : (Held : Pod → Type 0) (v : Pod-F Pod Control Prop) → IsLeafSaid v → IsSaid Held v
+leaf_said : (Held : Pod → Type 0) (v : Pod-F Pod Control Prop) → IsWellFormedLeaf v → IsWellFormedBy Held v
 leaf_said Held (Pod-F.Array child values) h = absurd h
 leaf_said Held (Pod-F.Struct fields) h = absurd h
 leaf_said Held (Pod-F.Object object id props) h = absurd h
@@ -47,7 +47,7 @@ leaf_said Held (Pod-F.Choice kind flags child values) h = absurd h
 leaf_said Held (Pod-F.Sequence unit controls) h = absurd h
 leaf_said Held v h = h
 
-leaf_headed : (v : Pod-F Pod Control Prop) → IsLeafSaid v → headed v ≡ H.Leaf (roll-Pod v)
+leaf_headed : (v : Pod-F Pod Control Prop) → IsWellFormedLeaf v → headed v ≡ H.Leaf (roll-Pod v)
 leaf_headed (Pod-F.Array child values) h = absurd h
 leaf_headed (Pod-F.Struct fields) h = absurd h
 leaf_headed (Pod-F.Object object id props) h = absurd h
@@ -55,7 +55,7 @@ leaf_headed (Pod-F.Choice kind flags child values) h = absurd h
 leaf_headed (Pod-F.Sequence unit controls) h = absurd h
 leaf_headed v h = refl
 
-leaf_held : (v : Pod-F Pod Control Prop) (level : ℕ) → IsLeafSaid v → (lines_at v).held level ≡ []
+leaf_held : (v : Pod-F Pod Control Prop) (level : ℕ) → IsWellFormedLeaf v → (lines_at v).held level ≡ []
 leaf_held (Pod-F.Array child values) level h = absurd h
 leaf_held (Pod-F.Struct fields) level h = absurd h
 leaf_held (Pod-F.Object object id props) level h = absurd h
@@ -102,7 +102,7 @@ keyed_back word level a b l more free line h k is =
 
 -- what is read of values with so many levels left
 abbrev IsReading : ℕ → Type 0
-IsReading left = (level : ℕ) (p : Pod) (more : List ℕ) → IsSayable left p
+IsReading left = (level : ℕ) (p : Pod) (more : List ℕ) → IsWellFormed left p
     → value_said left level (text_at level (lines_of p) ++ more) ≡ Some (p, more)
 
 prop_out : (x : Prop) → prop_lines_of x ≡ record {
@@ -111,7 +111,7 @@ prop_out : (x : Prop) → prop_lines_of x ≡ record {
 }
 prop_out x = fold_out-Prop Lines Lines Lines pod_lines control_lines prop_lines x
 
-prop_back : (left level : ℕ) → IsReading left → (x : Prop) (more : List ℕ) → PropFits (IsSayable left) x
+prop_back : (left level : ℕ) → IsReading left → (x : Prop) (more : List ℕ) → PropFits (IsWellFormed left) x
     → prop_said (value_said left) level (text_at level (prop_lines_of x) ++ more) ≡ Some (x, more)
 unfolding prop_said two_numbered
 prop_back left level each x more h =
@@ -133,7 +133,7 @@ control_out : (x : Control) → control_lines_of x ≡ record {
 }
 control_out x = fold_out-Control Lines Lines Lines pod_lines control_lines prop_lines x
 
-control_back : (left level : ℕ) → IsReading left → (x : Control) (more : List ℕ) → ControlFits (IsSayable left) x
+control_back : (left level : ℕ) → IsReading left → (x : Control) (more : List ℕ) → ControlFits (IsWellFormed left) x
     → control_said (value_said left) level (text_at level (control_lines_of x) ++ more) ≡ Some (x, more)
 unfolding control_said two_numbered
 control_back left level each x more h =
@@ -150,7 +150,7 @@ control_back left level each x more h =
     ∙ ap (λ (p : Control). Some (p, more)) (roll-out-Control x)
 
 -- what a head holds
-held_back : (left level : ℕ) (v : Pod-F Pod Control Prop) (more : List ℕ) → IsReading left → IsSaid (IsSayable left) v
+held_back : (left level : ℕ) (v : Pod-F Pod Control Prop) (more : List ℕ) → IsReading left → IsWellFormedBy (IsWellFormed left) v
     → held_said (value_said left) level (headed v) ((lines_at v).held (level + 1) ++ more) ≡ Some (roll-Pod v, more)
 unfolding held_said roll-Pod denote.Hole.Carrier.roll
 held_back left level (Pod-F.Array child values) more each h =
@@ -161,11 +161,11 @@ held_back left level (Pod-F.Array child values) more each h =
     (λ x m k. element_back child (level + 1) x m k) values [] more h.3)
 held_back left level (Pod-F.Struct fields) more each h =
     ap (option_map (λ (c : List Pod × List ℕ). (P.Struct c.0, c.1)))
-    (many_back (value_said left (level + 1)) lines_of (level + 1) (IsSayable left)
+    (many_back (value_said left (level + 1)) lines_of (level + 1) (IsWellFormed left)
     (λ x m k. each (level + 1) x m k) fields [] more h.1)
 held_back left level (Pod-F.Object object id props) more each h =
     ap (option_map (λ (c : List Prop × List ℕ). (P.Object object id c.0, c.1)))
-    (many_back (prop_said (value_said left) (level + 1)) prop_lines_of (level + 1) (PropFits (IsSayable left))
+    (many_back (prop_said (value_said left) (level + 1)) prop_lines_of (level + 1) (PropFits (IsWellFormed left))
     (λ x m k. prop_back left (level + 1) each x m k) props [] more h.3)
 held_back left level (Pod-F.Choice kind flags child values) more each h =
     cond-true (may_hold child (length values)) (option_map (λ (c : List Pod × List ℕ). (P.Choice kind flags child c.0, c.1))
@@ -175,26 +175,26 @@ held_back left level (Pod-F.Choice kind flags child values) more each h =
     (λ x m k. element_back child (level + 1) x m k) values [] more h.1.3)
 held_back left level (Pod-F.Sequence unit controls) more each h =
     ap (option_map (λ (c : List Control × List ℕ). (P.Sequence unit c.0, c.1)))
-    (many_back (control_said (value_said left) (level + 1)) control_lines_of (level + 1) (ControlFits (IsSayable left))
+    (many_back (control_said (value_said left) (level + 1)) control_lines_of (level + 1) (ControlFits (IsWellFormed left))
     (λ x m k. control_back left (level + 1) each x m k) controls [] more h.2)
 held_back left level v more each h = refl
 
-pub value_back : (left level : ℕ) (p : Pod) (more : List ℕ) → IsSayable left p
+pub value_back : (left level : ℕ) (p : Pod) (more : List ℕ) → IsWellFormed left p
     → value_said left level (text_at level (lines_of p) ++ more) ≡ Some (p, more)
-unfolding IsSayable value_said
+unfolding IsWellFormed value_said
 value_back zero level p more h = absurd h
 value_back (suc left) level p more h =
     let v = out-Pod p in
     let read = value_said left in
     let rest = (lines_at v).held (level + 1) ++ more in
     ap (λ (l : Lines). value_line read level (line_said level (text_at level l ++ more))) (lines_out p)
-    ∙ ap (value_line read level) (first_line level (lines_at v) more (head_free (IsSayable left) v h))
-    ∙ ap (λ (o : Option Head). value_in read level o rest) (head_back (IsSayable left) v h)
+    ∙ ap (value_line read level) (first_line level (lines_at v) more (head_free (IsWellFormed left) v h))
+    ∙ ap (λ (o : Option Head). value_in read level o rest) (head_back (IsWellFormed left) v h)
     ∙ held_back left level v more (λ n q m k. value_back left n q m k) h
     ∙ ap (λ (q : Pod). Some (q, more)) (roll-out-Pod p)
 
 -- a whole text
-pub pod_back : (pod : Pod) (text : List ℕ) → IsSayable depth_limit pod → text ≡ dump_text_of pod → pod_said text ≡ Some pod
+pub pod_back : (pod : Pod) (text : List ℕ) → IsWellFormed depth_limit pod → text ≡ dump_text_of pod → pod_said text ≡ Some pod
 unfolding pod_said
 pod_back pod text h is =
     ap (λ (t : List ℕ). alone (value_said depth_limit 0 t)) (is ∙ sym (append-nil (dump_text_of pod)))

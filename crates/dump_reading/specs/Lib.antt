@@ -1,4 +1,4 @@
 pub mod Values
-pub mod Sayable
+pub mod WellFormed
 pub mod Answers
 pub mod working

@@ -4,7 +4,7 @@ ghost use Rattle.pw_lists.specs.Limits.{depth_limit};
 ghost use Rattle.pod_codec.specs.declared.pod.Pod.{Pod};
 ghost use Rattle.pod_codec.specs.DumpText.{dump_text_of};
 ghost use Rattle.dump_reading.specs.Answers.{IsAnswer, IsReadBack, IsToldAs};
-ghost use Rattle.dump_reading.specs.Sayable.{IsSayable};
+ghost use Rattle.dump_reading.specs.WellFormed.{IsWellFormed};
 ghost use Rattle.dump_reading.specs.Values.{pod_said};
 
 use crate::fault::{DumpFault, DumpWhy, Stop};
@@ -76,7 +76,7 @@ pub fn read_dump(alloc: Global, text: &[u8]) -> Result<Pod, DumpFault>
     ensures found { IfOk result (λ pod. dump_text_of pod ≡ text.now) }
 
     // What was dumped is read back.
-    ensures back { (pod : Pod) → IsSayable depth_limit pod → text.now ≡ dump_text_of pod
+    ensures back { (pod : Pod) → IsWellFormed depth_limit pod → text.now ≡ dump_text_of pod
         → IsReadBack pod result }
 {
     match pod_said(alloc, text) {

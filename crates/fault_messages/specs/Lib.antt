@@ -18,9 +18,9 @@ pub mod NumberRules
 pub mod Places
 pub mod PodMessages
 pub mod PortEnds
+pub mod ReportedLines
 pub mod ScriptMessages
 pub mod ScriptWords
 pub mod SinkNotes
-pub mod ToldLines
 pub mod UnknownNames
 pub mod Usages

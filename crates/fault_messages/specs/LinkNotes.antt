@@ -5,7 +5,7 @@ use Rattle.graph_script.specs.Lexical.{words_of}
 use Rattle.fault_messages.specs.KeyNames.{clash_said}
 use Rattle.fault_messages.specs.NameRules.{is_pair, end_name}
 use Rattle.fault_messages.specs.Places.{word, quoted}
-use Rattle.fault_messages.specs.ToldLines.{first_line, behind_line, note_at}
+use Rattle.fault_messages.specs.ReportedLines.{first_line, behind_line, note_at}
 
 -- of a loop: both ends are of one node, or a way leads back
 abbrev pub loop_said : List (List ℕ) → List ℕ

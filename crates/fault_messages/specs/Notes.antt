@@ -7,7 +7,7 @@ use Rattle.fault_messages.specs.KeyNames.{key_clash}
 use Rattle.fault_messages.specs.LinkNotes.{link_notes}
 use Rattle.fault_messages.specs.Places.{word}
 use Rattle.fault_messages.specs.SinkNotes.{sink_notes}
-use Rattle.fault_messages.specs.ToldLines.{first_line}
+use Rattle.fault_messages.specs.ReportedLines.{first_line}
 
 -- of a run: its links, then its sinks and meters
 abbrev pub run_notes : List (List ℕ) → Option (List ℕ) → List ℕ → List ℕ

@@ -4,7 +4,7 @@ use Rattle.std.specs.Prelude.{ℕ, ◌+◌, ◌&&◌, not, Bool, List, [], ◌�
 use Rattle.std.specs.List.{list_any}
 use Rattle.graph_script.specs.Lexical.{words_of}
 use Rattle.fault_messages.specs.Places.{Words, word, quoted}
-use Rattle.fault_messages.specs.ToldLines.{is_unused, note_at}
+use Rattle.fault_messages.specs.ReportedLines.{is_unused, note_at}
 
 abbrev pub is_sink : List (List ℕ) → Bool
 is_sink ws = bytes_eq (word ws 0) (codes "sink")

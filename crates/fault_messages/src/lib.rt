@@ -25,10 +25,10 @@ mod places;
 mod pod_messages;
 mod port_ends;
 mod putting;
+mod reported_lines;
 mod script_messages;
 mod sentences;
 mod sink_notes;
-mod told_lines;
 mod unknown_names;
 mod usages;
 

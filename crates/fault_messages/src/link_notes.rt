@@ -7,7 +7,7 @@ use crate::key_names::put_clash;
 use crate::lines::word_of;
 use crate::name_rules::{end_name, is_pair};
 use crate::putting::{put_note_head, put_two_quoted};
-use crate::told_lines::{behind_line, first_line};
+use crate::reported_lines::{behind_line, first_line};
 use pw_lists::{Memory, Text, next_piece};
 
 // Of a loop.

@@ -9,8 +9,8 @@ use crate::lines::word_of;
 use crate::link_notes::put_link_notes;
 use crate::places::word_at;
 use crate::putting::{put_shown, put_shown_pair};
+use crate::reported_lines::first_line;
 use crate::sink_notes::put_sink_notes;
-use crate::told_lines::first_line;
 use pw_lists::{Memory, Text};
 
 // Of a run.

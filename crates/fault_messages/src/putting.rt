@@ -2,7 +2,7 @@
 ghost use Rattle.std.specs.Prelude.{◌≡◌, ◌++◌, decimal, map, string_bytes, OnOk};
 ghost use Rattle.fault_messages.specs.Places.{word, quoted};
 ghost use Rattle.fault_messages.specs.Escaping.{escaped};
-ghost use Rattle.fault_messages.specs.ToldLines.{note_head};
+ghost use Rattle.fault_messages.specs.ReportedLines.{note_head};
 
 use crate::escaping::put_escaped;
 use crate::places::word_at;
@@ -186,7 +186,7 @@ pub fn put_shown_number(
 }
 
 // The program's name and a line of a file.
-#[tactic(auto, unfolding(crate::specs::ToldLines::note_head))]
+#[tactic(auto, unfolding(crate::specs::ReportedLines::note_head))]
 fn put_line_head(text: &mut Text, file: &[u8], number: u32) -> Result<(), Memory>
     ensures { OnOk result (text.new ≡ text.old ++ note_head file.now number) }
 {

@@ -8,7 +8,7 @@ ghost use Rattle.fault_messages.specs.SinkNotes.{sink_note, meter_note, sink_par
 
 use crate::lines::word_of;
 use crate::putting::{put_behind, put_note_head, put_quoted_pair};
-use crate::told_lines::is_unused;
+use crate::reported_lines::is_unused;
 use pw_lists::{Memory, Text, next_piece};
 
 fn is_sink(line: &[u8]) -> bool

@@ -1,1 +1,1 @@
-pub mod TiedLemmas
+pub mod AgreementLemmas

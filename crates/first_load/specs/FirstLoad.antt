@@ -25,10 +25,10 @@ kept_under _ name = None
 
 -- BEFORE THE FIRST CALL the files hold what they held at the beginning; what is kept was stored
 -- under its name then
-abbrev pub IsTied : Held → Held → First → Type 0
-IsTied begun held Awaited = held ≡ begun
-IsTied begun held (Kept name bytes) = IsSome begun → names_in begun name ≡ Some bytes
-IsTied begun held Gone = Unit {0}
+abbrev pub AgreesWithFiles : Held → Held → First → Type 0
+AgreesWithFiles begun held Awaited = held ≡ begun
+AgreesWithFiles begun held (Kept name bytes) = IsSome begun → names_in begun name ≡ Some bytes
+AgreesWithFiles begun held Gone = Unit {0}
 
 -- bytes that were stored under a name, where that is reported
 abbrev pub IsReadOf : Held → List ℕ → Option (List ℕ) → Type 0

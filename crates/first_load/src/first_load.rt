@@ -2,7 +2,7 @@
 ghost use Rattle.std.specs.Prelude.{◌≡◌, ◌≤◌, None, IsSome, option_copied};
 ghost use Rattle.pw_outside.specs.Causes.{HasCause};
 ghost use Rattle.pw_outside.specs.Files.{Held, names_in, IsLoaded, IsWithin, IsStored};
-ghost use Rattle.first_load.specs.FirstLoad.{IsTied, IsKept, stored_first, kept_under, IsReadOf};
+ghost use Rattle.first_load.specs.FirstLoad.{AgreesWithFiles, IsKept, stored_first, kept_under, IsReadOf};
 
 use crate::first::{First, first_of};
 use pw_lists::Text;
@@ -26,7 +26,7 @@ pub struct FirstLoad<F: Files, K: Begun> {
     first: First,
     at: PhantomData<K>,
     // What is kept was stored under its name before the first call.
-    ghost tied: { ∥ IsTied K.begun (F.held files) first ∥₁ },
+    ghost agrees: { ∥ AgreesWithFiles K.begun (F.held files) first ∥₁ },
 }
 
 impl<F: Files, K: Begun> FirstLoad<F, K> {

@@ -5,7 +5,7 @@ use Rattle.graph_script.specs.declared.fault.ScriptWhy.{ScriptWhy}
 use Rattle.graph_script.specs.declared.fault.ScriptWhy.TheVariants.{TooMany}
 use Rattle.graph_pictures.specs.declared.status.Status.{Status}
 use Rattle.graph_pictures.specs.declared.status.Status.TheVariants as S
-use Rattle.graph_pictures.specs.Filling.{filled}
+use Rattle.graph_pictures.specs.Template.{filled}
 use Rattle.graph_pictures.specs.StatusText.{why_form, has_line, line_of}
 
 -- a list with a first element

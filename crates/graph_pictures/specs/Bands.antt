@@ -8,7 +8,7 @@ use Rattle.std.specs.List.{range_with_len}
 use Rattle.pw_graph.specs.declared.event.Event.{Event}
 use Rattle.pw_graph.specs.declared.event.Event.TheVariants.{Begin}
 use Rattle.graph_pictures.specs.declared.frame.Frame.{Frame}
-use Rattle.graph_pictures.specs.Filling.{filled}
+use Rattle.graph_pictures.specs.Template.{filled}
 
 -- the cycle that an event begins, and the last that events begin
 abbrev pub begun : Event → Option ℕ

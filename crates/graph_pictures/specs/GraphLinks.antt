@@ -9,11 +9,11 @@ use Rattle.pw_graph.specs.Pools.{is_same_port}
 use Rattle.graph_script.specs.declared.command.Command.{Command}
 use Rattle.graph_script.specs.declared.command.Command.TheVariants as C
 use Rattle.graph_script.specs.declared.script.Line.{Line}
-use Rattle.graph_pictures.specs.declared.fates.Cut.{Cut}
-use Rattle.graph_pictures.specs.declared.fates.Fates.{Fates}
+use Rattle.graph_pictures.specs.declared.outcomes.UnlinkLine.{UnlinkLine}
+use Rattle.graph_pictures.specs.declared.outcomes.LinkOutcomes.{LinkOutcomes}
 use Rattle.graph_pictures.specs.declared.refusals.Refusal.{Refusal}
 use Rattle.graph_pictures.specs.Escaping.{dot_escaped}
-use Rattle.graph_pictures.specs.Filling.{filled}
+use Rattle.graph_pictures.specs.Template.{filled}
 use Rattle.graph_pictures.specs.Refusals.{link_numbers, told_links, refusals, refusal_at}
 
 -- the node of an `async` line
@@ -22,30 +22,30 @@ async_node (C.Async node) = Some node
 async_node other = None
 
 -- what an `unlink` line cuts, with the number of the line
-abbrev pub cut_at : ℕ → Command → Option Cut
-cut_at number (C.Unlink from to) = Some (record { line = number; from = from; to = to })
-cut_at number other = None
+abbrev pub unlink_at : ℕ → Command → Option UnlinkLine
+unlink_at number (C.Unlink from to) = Some (record { line = number; from = from; to = to })
+unlink_at number other = None
 
 -- what becomes of links, by the lines of a script and of its run: the nodes at which they are late,
 -- where they are cut, and which are refused
-abbrev pub fates_of : List Line → List (List ℕ) → Fates
-fates_of lines run = record {
+abbrev pub outcomes_of : List Line → List (List ℕ) → LinkOutcomes
+outcomes_of lines run = record {
   late = filter_map (λ l. async_node l.command) lines;
-  cuts = filter_map (λ l. cut_at l.line l.command) lines;
+  unlinks = filter_map (λ l. unlink_at l.line l.command) lines;
   refused = refusals (link_numbers lines) (told_links run);
 }
 
 -- a link hands on what was made one cycle earlier: an `async` line names the node at an end of it
-abbrev pub is_late : Fates → PortId → PortId → Bool
-is_late fates from to = list_any (λ n. n == from.node || n == to.node) fates.late
+abbrev pub is_late : LinkOutcomes → PortId → PortId → Bool
+is_late outcomes from to = list_any (λ n. n == from.node || n == to.node) outcomes.late
 
 -- the link of a line is cut: a later `unlink` line names its two ports
-abbrev pub cuts_after : ℕ → PortId → PortId → Cut → Bool
-cuts_after number from to cut =
-    nat_lt number cut.line && (is_same_port from cut.from && is_same_port to cut.to)
+abbrev pub unlinks_after : ℕ → PortId → PortId → UnlinkLine → Bool
+unlinks_after number from to unlink =
+    nat_lt number unlink.line && (is_same_port from unlink.from && is_same_port to unlink.to)
 
-abbrev pub is_cut : Fates → ℕ → PortId → PortId → Bool
-is_cut fates number from to = list_any (cuts_after number from to) fates.cuts
+abbrev pub is_unlinked : LinkOutcomes → ℕ → PortId → PortId → Bool
+is_unlinked outcomes number from to = list_any (unlinks_after number from to) outcomes.unlinks
 
 -- late links are dashed, those that are cut are grey
 abbrev pub style_text : Bool → Bool → List ℕ
@@ -65,13 +65,13 @@ abbrev pub refused_text : List ℕ → List ℕ
 refused_text cause = codes " [style=dotted, color=gray, fontcolor=gray, fontsize=10, label=\""
     ++ cause_text cause ++ codes "\"];\n"
 
-abbrev pub ending_text : Fates → ℕ → PortId → PortId → Option Refusal → List ℕ
-ending_text fates number from to (Some refusal) = refused_text refusal.cause
-ending_text fates number from to None =
-    style_text (is_late fates from to) (is_cut fates number from to)
+abbrev pub ending_text : LinkOutcomes → ℕ → PortId → PortId → Option Refusal → List ℕ
+ending_text outcomes number from to (Some refusal) = refused_text refusal.cause
+ending_text outcomes number from to None =
+    style_text (is_late outcomes from to) (is_unlinked outcomes number from to)
 
 -- THE STATEMENT of the link of a line
-abbrev pub link_text : Fates → ℕ → PortId → PortId → List ℕ
-link_text fates number from to =
+abbrev pub link_text : LinkOutcomes → ℕ → PortId → PortId → List ℕ
+link_text outcomes number from to =
     filled (codes "  n%:p%:e -> n%:p%:w") (from.node ∷ from.port ∷ to.node ∷ to.port ∷ [])
-    ++ ending_text fates number from to (refusal_at fates.refused number)
+    ++ ending_text outcomes number from to (refusal_at outcomes.refused number)

@@ -4,7 +4,7 @@ use Rattle.std.specs.Prelude.{ℕ, ◌-◌, nat_le, if◌then◌else◌, List, [
 use Rattle.graph_script.specs.declared.command.Command.{Command}
 use Rattle.graph_script.specs.declared.command.Command.TheVariants as C
 use Rattle.graph_script.specs.Printing.{node_word, list_word}
-use Rattle.graph_pictures.specs.Filling.{filled, numbers_text}
+use Rattle.graph_pictures.specs.Template.{filled, numbers_text}
 use Rattle.graph_pictures.specs.Escaping.{dot_escaped}
 
 -- the name of a file; of more than 32 bytes the first 15 and the last 15

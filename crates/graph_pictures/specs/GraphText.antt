@@ -7,10 +7,10 @@ use Rattle.graph_script.specs.declared.command.Command.{Command}
 use Rattle.graph_script.specs.declared.command.Command.TheVariants as C
 use Rattle.graph_script.specs.declared.script.Script.{Script}
 use Rattle.graph_script.specs.Kinds.{made_by}
-use Rattle.graph_pictures.specs.declared.fates.Fates.{Fates}
-use Rattle.graph_pictures.specs.Filling.{filled}
+use Rattle.graph_pictures.specs.declared.outcomes.LinkOutcomes.{LinkOutcomes}
+use Rattle.graph_pictures.specs.Template.{filled}
 use Rattle.graph_pictures.specs.GraphNodes.{node_text}
-use Rattle.graph_pictures.specs.GraphLinks.{fates_of, link_text}
+use Rattle.graph_pictures.specs.GraphLinks.{outcomes_of, link_text}
 
 -- what is before the statements: from left to right, nodes as records
 abbrev pub head_text : List ℕ
@@ -30,24 +30,24 @@ legend_text =
 -- the statement of a command on the line of this number: a node; a second border and the priority
 -- of a driver candidate; beside a node its loop; a link; a border of dots for a node that is off;
 -- others draw nothing
-abbrev pub statement_text : List (List ℕ) → Fates → ℕ → Command → List ℕ
-statement_text names fates number (C.Driver node priority) =
+abbrev pub statement_text : List (List ℕ) → LinkOutcomes → ℕ → Command → List ℕ
+statement_text names outcomes number (C.Driver node priority) =
     filled (codes "  subgraph cluster_% { label=\"driver %\"; n%; }\n")
     (node ∷ priority ∷ node ∷ [])
-statement_text names fates number (C.Link from to) = link_text fates number from to
-statement_text names fates number (C.Loop node k) =
+statement_text names outcomes number (C.Link from to) = link_text outcomes number from to
+statement_text names outcomes number (C.Loop node k) =
     filled (codes "  n% [xlabel=\"loop %\"];\n") (node ∷ k ∷ [])
-statement_text names fates number (C.On node) =
+statement_text names outcomes number (C.On node) =
     filled (codes "  n% [style=solid];\n") (node ∷ [])
-statement_text names fates number (C.Off node) =
+statement_text names outcomes number (C.Off node) =
     filled (codes "  n% [style=dotted];\n") (node ∷ [])
-statement_text names fates number command =
+statement_text names outcomes number command =
     option_map_or (λ m. node_text names m.0 command) (made_by command) []
 
 -- THE PICTURE of a script, and of what its run did, by the lines of its text; without a run there
 -- are no lines
 unfoldable pub graph_text : Script → List (List ℕ) → List ℕ
 graph_text script run = head_text
-    ++ flat_map (λ l. statement_text script.names (fates_of script.lines run) l.line l.command)
+    ++ flat_map (λ l. statement_text script.names (outcomes_of script.lines run) l.line l.command)
     script.lines
     ++ legend_text ++ filled (codes "}\n") []

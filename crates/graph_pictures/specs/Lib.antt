@@ -1,7 +1,7 @@
 pub mod Bands
 pub mod Answers
 pub mod Escaping
-pub mod Filling
+pub mod Template
 pub mod GraphLinks
 pub mod GraphNodes
 pub mod GraphText

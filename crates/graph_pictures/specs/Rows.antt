@@ -2,7 +2,7 @@
 -- Source: w3.org, "SVG 1.1", paths and texts. What is drawn is this project's own.
 use Rattle.std.specs.Prelude.{ℕ, ◌+◌, ◌-◌, List, [], ◌∷◌, ◌++◌, length, min, max, codes}
 use Rattle.cycle_trace.specs.NodeNames.{node_name}
-use Rattle.graph_pictures.specs.Filling.{filled}
+use Rattle.graph_pictures.specs.Template.{filled}
 use Rattle.graph_pictures.specs.Escaping.{xml_escaped}
 use Rattle.graph_pictures.specs.Strip.{middle_of}
 

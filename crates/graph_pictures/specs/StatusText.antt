@@ -7,7 +7,7 @@ use Rattle.graph_script.specs.Faults.{why_number}
 use Rattle.wav_files.specs.WavFaults.{wav_fault_number}
 use Rattle.graph_pictures.specs.declared.status.Status.{Status}
 use Rattle.graph_pictures.specs.declared.status.Status.TheVariants as S
-use Rattle.graph_pictures.specs.Filling.{filled}
+use Rattle.graph_pictures.specs.Template.{filled}
 
 abbrev pub status_number : Status → ℕ
 status_number S.Ok = 0

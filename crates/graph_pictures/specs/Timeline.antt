@@ -4,7 +4,7 @@
 use Rattle.std.specs.Prelude.{ℕ, ◌+◌, ◌*◌, ◌/◌, ◌==◌, if◌then◌else◌, List, [], ◌∷◌, ◌++◌, length, min, max, codes}
 use Rattle.pw_graph.specs.declared.event.Event.{Event}
 use Rattle.graph_pictures.specs.declared.frame.Frame.{Frame}
-use Rattle.graph_pictures.specs.Filling.{filled}
+use Rattle.graph_pictures.specs.Template.{filled}
 use Rattle.graph_pictures.specs.Rows.{widest, rows_text}
 use Rattle.graph_pictures.specs.Strip.{strip_text}
 

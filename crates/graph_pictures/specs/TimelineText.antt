@@ -3,7 +3,7 @@
 use Rattle.std.specs.Prelude.{ℕ, List, [], ◌++◌, length, take, codes}
 use Rattle.pw_graph.specs.declared.event.Event.{Event}
 use Rattle.graph_pictures.specs.declared.frame.Frame.{Frame}
-use Rattle.graph_pictures.specs.Filling.{filled}
+use Rattle.graph_pictures.specs.Template.{filled}
 use Rattle.graph_pictures.specs.AtWork.{at_work}
 use Rattle.graph_pictures.specs.Bands.{bands_text}
 use Rattle.graph_pictures.specs.Timeline.{frame_of, head_text, groups_text}

@@ -2,7 +2,7 @@
 -- Source: w3.org, "SVG 1.1", paths and transforms. What is drawn is this project's own.
 use Rattle.std.specs.Prelude.{ℕ, ◌+◌, ◌-◌, ◌*◌, ◌/◌, Bool, true, false, List, [], ◌∷◌, ◌++◌, flat_map, codes, max, length, ℤ}
 use Rattle.std.specs.List.{range_with_len}
-use Rattle.graph_pictures.specs.Filling.{filled}
+use Rattle.graph_pictures.specs.Template.{filled}
 use Rattle.graph_pictures.specs.WaveColumns.{columns_of, column_of, least_of, greatest_of, depth_of, is_clipped}
 
 -- how far below the top of its lane a sample is: a lane is 256 points high

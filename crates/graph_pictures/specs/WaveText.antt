@@ -3,7 +3,7 @@
 use Rattle.std.specs.Prelude.{ℕ, ◌+◌, ◌*◌, ◌/◌, ◌%◌, nat_lt, if◌then◌else◌, List, [], ◌∷◌, ◌++◌, flat_map, codes, min}
 use Rattle.std.specs.List.{range_with_len}
 use Rattle.wav_files.specs.declared.wav.Wav.{Wav}
-use Rattle.graph_pictures.specs.Filling.{filled}
+use Rattle.graph_pictures.specs.Template.{filled}
 use Rattle.graph_pictures.specs.WaveColumns.{frames_of, lane_of, columns_of}
 use Rattle.graph_pictures.specs.WaveLanes.{unit_of, lane_text}
 use Rattle.graph_pictures.specs.WaveTicks.{millis_of, axis}

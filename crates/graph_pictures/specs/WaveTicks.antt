@@ -3,7 +3,7 @@
 -- Source: w3.org, "SVG 1.1", paths and texts.
 use Rattle.std.specs.Prelude.{ℕ, ◌+◌, ◌*◌, ◌/◌, ◌%◌, nat_lt, if◌then◌else◌, List, [], ◌∷◌, flat_map, codes, max}
 use Rattle.std.specs.List.{range_with_len}
-use Rattle.graph_pictures.specs.Filling.{filled}
+use Rattle.graph_pictures.specs.Template.{filled}
 
 -- the milliseconds of frames
 abbrev pub millis_of : ℕ → ℕ → ℕ

@@ -4,8 +4,8 @@ ghost use Rattle.std.specs.Option.{option_or};
 ghost use Rattle.graph_pictures.specs.Bands.{begun, last_begun, cycle_text, band_parts, band_text, bands_text};
 ghost use Rattle.graph_pictures.specs.working.Sizes.{AreSizes};
 
-use crate::filling::fill;
 use crate::frame::Frame;
+use crate::template::fill;
 use pw_graph::Event;
 use pw_lists::{Memory, Text};
 

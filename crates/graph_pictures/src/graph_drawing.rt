@@ -1,14 +1,14 @@
 //! The picture of a script's graph.
 ghost use Rattle.std.specs.Prelude.{◌≡◌, ◌++◌, OnOk, IfOk, flat_map, option_copied};
-ghost use Rattle.graph_pictures.specs.GraphLinks.{style_text, cause_text, refused_text, ending_text, link_text, fates_of};
+ghost use Rattle.graph_pictures.specs.GraphLinks.{style_text, cause_text, refused_text, ending_text, link_text, outcomes_of};
 ghost use Rattle.cycle_trace.specs.TraceReading.{trace_lines};
 ghost use Rattle.graph_pictures.specs.GraphText.{head_text, legend_text, statement_text, graph_text};
 
 use crate::escaping::put_dot;
-use crate::fates::{Fates, fates_of, is_cut, is_late};
-use crate::filling::fill;
 use crate::graph_nodes::put_node;
+use crate::outcomes::{LinkOutcomes, is_late, is_unlinked, outcomes_of};
 use crate::refusals::{Refusal, refusal_at};
+use crate::template::fill;
 use graph_script::{Command, Line, Script};
 use pw_graph::PortId;
 use pw_lists::{Items, Memory, Text};
@@ -52,19 +52,22 @@ fn put_refused(text: &mut Text, cause: &[u8]) -> Result<(), Memory>
 // What ends the statement of a link, which may be refused.
 fn put_ending(
     text: &mut Text,
-    fates: &Fates,
+    outcomes: &LinkOutcomes,
     number: u32,
     from: PortId,
     to: PortId,
     refusal: Option<&Refusal>,
 ) -> Result<(), Memory>
     ensures { OnOk result (text.new ≡ text.old
-        ++ ending_text fates.now number from to (option_copied refusal.entry)) }
+        ++ ending_text outcomes.now number from to (option_copied refusal.entry)) }
 {
     match refusal {
         Some(refusal) => put_refused(text, refusal.cause.as_slice()),
         None => {
-            let style = style_text(is_late(fates, from, to), is_cut(fates, number, from, to));
+            let style = style_text(
+                is_late(outcomes, from, to),
+                is_unlinked(outcomes, number, from, to),
+            );
             text.extend(style)
         }
     }
@@ -74,12 +77,12 @@ fn put_ending(
 #[tactic(auto, using(crate::proofs::Grown::texts))]
 fn put_link(
     text: &mut Text,
-    fates: &Fates,
+    outcomes: &LinkOutcomes,
     number: u32,
     from: PortId,
     to: PortId,
 ) -> Result<(), Memory>
-    ensures { OnOk result (text.new ≡ text.old ++ link_text fates.now number from to) }
+    ensures { OnOk result (text.new ≡ text.old ++ link_text outcomes.now number from to) }
 {
     let ends = [
         u64::from(from.node),
@@ -90,11 +93,11 @@ fn put_link(
     fill(text, b"  n%:p%:e -> n%:p%:w", &ends)?;
     put_ending(
         text,
-        fates,
+        outcomes,
         number,
         from,
         to,
-        refusal_at(fates.refused.as_slice(), number),
+        refusal_at(outcomes.refused.as_slice(), number),
     )?;
     Ok(())
 }
@@ -103,12 +106,12 @@ fn put_link(
 fn put_statement(
     text: &mut Text,
     names: &[Text],
-    fates: &Fates,
+    outcomes: &LinkOutcomes,
     number: u32,
     command: &Command,
 ) -> Result<(), Memory>
     ensures { OnOk result
-        (text.new ≡ text.old ++ statement_text names.now fates.now number command.now) }
+        (text.new ≡ text.old ++ statement_text names.now outcomes.now number command.now) }
 {
     match command {
         Command::Driver { node, priority } => fill(
@@ -116,7 +119,7 @@ fn put_statement(
             b"  subgraph cluster_% { label=\"driver %\"; n%; }\n",
             &[u64::from(*node), u64::from(*priority), u64::from(*node)],
         ),
-        Command::Link { from, to } => put_link(text, fates, number, *from, *to),
+        Command::Link { from, to } => put_link(text, outcomes, number, *from, *to),
         Command::Loop { node, k } => fill(
             text,
             b"  n% [xlabel=\"loop %\"];\n",
@@ -141,14 +144,14 @@ fn put_statement(
 fn put_statements(
     text: &mut Text,
     names: &[Text],
-    fates: &Fates,
+    outcomes: &LinkOutcomes,
     lines: &[Line],
 ) -> Result<(), Memory>
     ensures { OnOk result (text.new ≡ text.old
-        ++ flat_map (λ l. statement_text names.now fates.now l.line l.command) lines.now) }
+        ++ flat_map (λ l. statement_text names.now outcomes.now l.line l.command) lines.now) }
 {
     for line in lines {
-        put_statement(text, names, fates, line.line, &line.command)?;
+        put_statement(text, names, outcomes, line.line, &line.command)?;
     }
     Ok(())
 }
@@ -208,10 +211,10 @@ pub fn graph(alloc: Global, script: &Script, run: &[u8]) -> Result<Text, Memory>
     ensures { IfOk result (λ text. text ≡ graph_text script.now (trace_lines run.now)) }
 {
     let lines = script.lines.as_slice();
-    let fates = fates_of(alloc, lines, run)?;
+    let outcomes = outcomes_of(alloc, lines, run)?;
     let mut text = Items::new(alloc);
     put_head(&mut text)?;
-    put_statements(&mut text, script.names.as_slice(), &fates, lines)?;
+    put_statements(&mut text, script.names.as_slice(), &outcomes, lines)?;
     put_legend(&mut text)?;
     fill(&mut text, b"}\n", &[])?;
     Ok(text)

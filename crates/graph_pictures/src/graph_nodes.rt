@@ -1,12 +1,12 @@
 //! The statements of nodes at the end of a text. After `Memory` the text has a part of them.
 ghost use Rattle.std.specs.Prelude.{◌≡◌, ◌-◌, ◌<◌, ◌++◌, ◌∷◌, [], length, take, drop, OnOk, codes, pos};
-ghost use Rattle.graph_pictures.specs.Filling.{numbers_text};
+ghost use Rattle.graph_pictures.specs.Template.{numbers_text};
 ghost use Rattle.graph_pictures.specs.Escaping.{dot_escaped};
 ghost use Rattle.graph_script.specs.Printing.{node_word, list_word};
 ghost use Rattle.graph_pictures.specs.GraphNodes.{file_text, kind_text, inputs_text, outputs_text, middle_text, node_text};
 
 use crate::escaping::put_dot;
-use crate::filling::{fill, put_numbers};
+use crate::template::{fill, put_numbers};
 use graph_script::Command;
 use pw_lists::{Memory, Text, append_decimal};
 

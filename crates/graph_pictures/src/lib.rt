@@ -3,24 +3,25 @@
 //!
 //! `graph`, `timeline` and `wave` make the texts; `print_picture` is the whole program, over files
 //! and an output: it reads the words of a command line, loads, and prints the picture or the line
-//! of a status. Texts are built of forms with numbers in them (`filling`) and of names and file
+//! of a status. Texts are built of forms with numbers in them (`template`) and of names and file
 //! words of the script, escaped (`escaping`).
 #![tactic(auto)]
 
 mod bands;
 mod drawing;
 mod escaping;
-mod fates;
-mod filling;
 mod frame;
 mod graph_drawing;
 mod graph_nodes;
+mod nodes_at_work;
+mod outcomes;
 mod reading;
 mod refusals;
 mod rows;
 mod sentences;
 mod status;
 mod strip;
+mod template;
 mod timeline_drawing;
 mod trace_text;
 mod wave_columns;
@@ -28,7 +29,6 @@ mod wave_drawing;
 mod wave_lanes;
 mod wave_ticks;
 mod words;
-mod working;
 
 pub use drawing::print_picture;
 pub use graph_drawing::graph;

@@ -4,7 +4,7 @@ ghost use Rattle.cycle_trace.specs.TraceReading.{trace_lines};
 ghost use Rattle.graph_script.specs.Lexical.{words_of};
 ghost use Rattle.graph_pictures.specs.Refusals.{link_at, link_numbers, tells_link, told_links, refusal_of, refusals, refusal_at};
 
-use crate::fates::push_some;
+use crate::outcomes::push_some;
 use crate::trace_text::{begins, next_line};
 use graph_script::{Command, Line, next_word};
 use pw_lists::{Items, Memory, Text};

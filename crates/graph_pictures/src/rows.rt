@@ -4,7 +4,7 @@ ghost use Rattle.cycle_trace.specs.NodeNames.{node_name};
 ghost use Rattle.graph_pictures.specs.Rows.{row_text, rows_text};
 
 use crate::escaping::put_xml;
-use crate::filling::fill;
+use crate::template::fill;
 use pw_graph::DUMMY;
 use pw_lists::{Memory, Text};
 

@@ -1,10 +1,10 @@
 //! Sentences for people.
 ghost use Rattle.std.specs.Prelude.{◌≡◌, ◌++◌, ◌∷◌, [], map, string_bytes, slice_index_or, IfOk, OnOk};
-ghost use Rattle.graph_pictures.specs.Filling.{filled};
+ghost use Rattle.graph_pictures.specs.Template.{filled};
 ghost use Rattle.graph_pictures.specs.Sentences.{shown_byte, file_word, wav_said, bytes_said, of_file, explained};
 
-use crate::filling::fill;
 use crate::status::Status;
+use crate::template::fill;
 use pw_lists::{Items, Memory, Text, Which};
 use std::alloc::Global;
 use wav_files::WavFault;

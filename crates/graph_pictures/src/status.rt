@@ -4,7 +4,7 @@ ghost use Rattle.command_frame.specs.Delivery.{LineEnds};
 ghost use Rattle.graph_pictures.specs.Statuses.{statuses};
 ghost use Rattle.graph_pictures.specs.StatusText.{status_number, which_in, why_form, has_line, line_of};
 
-use crate::filling::fill;
+use crate::template::fill;
 use command_frame::Ending;
 use graph_script::ScriptWhy;
 use pw_lists::{Items, Memory, Text, Which};

@@ -1,13 +1,13 @@
 //! The marks of events at the end of a text. After `Memory` the text has a part of them.
 ghost use Rattle.std.specs.Prelude.{◌≡◌, ◌*◌, ◌≤◌, ◌++◌, ◌∷◌, [], length, flat_map, codes, OnOk};
 ghost use Rattle.cycle_trace.specs.EventLines.{late_nodes};
-ghost use Rattle.graph_pictures.specs.Filling.{filled};
+ghost use Rattle.graph_pictures.specs.Template.{filled};
 ghost use Rattle.std.specs.List.{position_or_len};
 ghost use Rattle.graph_pictures.specs.AtWork.{row_of};
 ghost use Rattle.graph_pictures.specs.Strip.{middle_of, is_finish, span_of, late_text, event_text, strip_text};
 
-use crate::filling::fill;
-use crate::working::row_of;
+use crate::nodes_at_work::row_of;
+use crate::template::fill;
 use pw_graph::Event;
 use pw_lists::{Memory, Text};
 

@@ -5,11 +5,11 @@ ghost use Rattle.graph_pictures.specs.Timeline.{note_text, size_text, style_text
 ghost use Rattle.graph_pictures.specs.TimelineText.{picture_text, shown_text, timeline_text};
 
 use crate::bands::{first_of, put_bands};
-use crate::filling::fill;
 use crate::frame::{Frame, frame_of};
+use crate::nodes_at_work::at_work;
 use crate::rows::put_rows;
 use crate::strip::put_strip;
-use crate::working::at_work;
+use crate::template::fill;
 use pw_graph::Event;
 use pw_lists::{Items, Memory, Text};
 use std::alloc::Global;

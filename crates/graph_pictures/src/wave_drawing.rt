@@ -4,7 +4,7 @@ ghost use Rattle.wav_files.specs.WavWriting.{IsWave};
 ghost use Rattle.graph_pictures.specs.WaveColumns.{frames_of};
 ghost use Rattle.graph_pictures.specs.WaveText.{lanes_of, foot_of, wave_size_text, wave_note_text, more_text, wave_legend_text, wave_head_text, channel_text, lanes_text, axis_text, wave_text};
 
-use crate::filling::fill;
+use crate::template::fill;
 use crate::wave_columns::{columns_of, frames_of, lane_of};
 use crate::wave_lanes::{put_lane, unit_of};
 use crate::wave_ticks::{millis_of, put_ticks};

@@ -5,7 +5,7 @@ ghost use Rattle.pw_lists.specs.Limits.{channels_limit};
 ghost use Rattle.graph_pictures.specs.WaveLanes.{point_of, mark_text, bar_text, column_text, unit_of, ground_text, lane_parts, lane_text};
 ghost use Rattle.graph_pictures.specs.working.WaveSizes.{wave_frames_limit};
 
-use crate::filling::fill;
+use crate::template::fill;
 use crate::wave_columns::{column_of, columns_of, depth_of, greatest_of, is_clipped, least_of};
 use pw_lists::{Memory, Text};
 

@@ -4,7 +4,7 @@ ghost use Rattle.pw_lists.specs.Limits.{rate_limit};
 ghost use Rattle.graph_pictures.specs.WaveTicks.{millis_of, steps, step_among, step_of, place_of, tick_text, step_text, axis};
 ghost use Rattle.graph_pictures.specs.working.WaveSizes.{wave_frames_limit};
 
-use crate::filling::fill;
+use crate::template::fill;
 use pw_lists::{Memory, Text};
 
 /// The milliseconds of frames, `rate` a second.

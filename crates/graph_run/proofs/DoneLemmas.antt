@@ -6,7 +6,7 @@ use Rattle.std.proofs.lemmas.List.Elements.{All-append, All-cons, Contains-get_o
 use Rattle.crew_run.specs.Dealt.{AreDealt}
 use Rattle.crew_run.proofs.DealtLemmas.{dealt_count, held_all, backs_all, dealt_at}
 use Rattle.board_rule.specs.declared.board.Board.{Board}
-use Rattle.node_progress.specs.declared.score.Score.{Score}
+use Rattle.node_progress.specs.declared.run_model.RunModel.{RunModel}
 use Rattle.data_loop.specs.declared.loop_state.LoopState.{LoopState}
 use Rattle.driver_cycle.specs.Settling.{AreEach}
 use Rattle.graph_run.specs.declared.crew.LeadEnd.{LeadEnd}
@@ -65,8 +65,8 @@ module _ (shared : Shared) (l : LeadStart) (loops held : List LoopWay) (kept : L
       (subst (λ (ns : List ℕ). Contains ns k) (sym (ran.same.nodes ∙ ap (λ (s : LoopState). s.nodes) was)) own)
 
   pub are_done : (done : List LoopState) → done ≡ (h.led.own ∷ h.led.adopted) ++ backs
-      → AreDone shared.score.plan.value shared.score.waves.value done
-  are_done done is = subst (AreDone shared.score.plan.value shared.score.waves.value) (sym is) record {
+      → AreDone shared.run_model.plan.value shared.run_model.waves.value done
+  are_done done is = subst (AreDone shared.run_model.plan.value shared.run_model.waves.value) (sym is) record {
     each = all_done;
     nodes = λ k low. ⊎_elim
         (λ c. has_node ((h.led.own ∷ h.led.adopted) ++ backs) h.led.own k
@@ -85,8 +85,8 @@ module _ (shared : Shared) (l : LeadStart) (loops held : List LoopWay) (kept : L
 -- a loop that went through all epochs is done
 pub came : (boards : List Board) (s t : LoopState) → IsReady boards s → HasCome (length boards) s t → HasRun s t
 came boards s t ready come = record {
-  done = (come.between, come.epoch ∙ (ready.boards_are.count ∙ ap (λ (x : Score). length x.plan.value.epochs) (sym come.score)));
-  same = record { score = come.score; nodes = come.nodes };
+  done = (come.between, come.epoch ∙ (ready.boards_are.count ∙ ap (λ (x : RunModel). length x.plan.value.epochs) (sym come.run_model)));
+  same = record { run_model = come.run_model; nodes = come.nodes };
 }
 
 pub each_came : (shared : Shared) (old new : List LoopState) → All (CanRun shared) old → AreEach (HasCome (length shared.boards)) old new

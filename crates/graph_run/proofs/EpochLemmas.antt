@@ -16,13 +16,13 @@ use Rattle.board_rule.specs.declared.board.Board.{Board}
 use Rattle.board_rule.specs.Known.{Known}
 use Rattle.board_rule.specs.Layout.{BoardLayout}
 use Rattle.board_rule.specs.OnBoard.{layout, table_of}
-use Rattle.node_progress.specs.declared.score.Score.{Score}
+use Rattle.node_progress.specs.declared.run_model.RunModel.{RunModel}
 use Rattle.node_progress.specs.Standing.{works_in}
 use Rattle.data_loop.specs.declared.loop_state.LoopState.{LoopState}
 use Rattle.data_loop.specs.declared.member.Member.{Member}
-use Rattle.data_loop.specs.declared.stage.Stage.{Stage}
+use Rattle.data_loop.specs.declared.epoch_state.EpochState.{EpochState}
 use Rattle.data_loop.specs.Members.{drivers_of}
-use Rattle.data_loop.specs.Loops.{plan_of, HasStage}
+use Rattle.data_loop.specs.Loops.{plan_of, HasEpochState}
 use Rattle.data_loop.specs.LoopsOnBoards.{IsOnBoard, IsAtEnd, IsSameBut, IsFirstSeat}
 use Rattle.data_loop.specs.LoopDriver.{DrivesFrom}
 use Rattle.data_loop.proofs.BeginLemmas.{begins}
@@ -56,7 +56,7 @@ pub none_passed : (boards : List Board) (s : LoopState) → IsReady boards s →
 none_passed boards s h = record {
   between = h.between;
   epoch = h.none_done;
-  score = refl;
+  run_model = refl;
   nodes = refl;
   later = λ j past. refl;
 }
@@ -65,7 +65,7 @@ pub comes_on : (k : ℕ) (s t u : LoopState) → HasCome k s t → HasPassed t u
 comes_on k s t u a b = let e = a.epoch in record {
   between = b.between;
   epoch = b.epoch ∙ ap (λ n. n + 1) e;
-  score = b.score ∙ a.score;
+  run_model = b.run_model ∙ a.run_model;
   nodes = b.nodes ∙ a.nodes;
   later = λ j past. b.later j (omega (arith, past, e)) ∙ a.later j (omega (arith, past));
 }
@@ -74,9 +74,9 @@ pub passes : (s t u : LoopState) → IsSameBut s t → HasEntered t u → HasPas
 passes s t u a b = record {
   between = b.between;
   epoch = b.next ∙ ap (λ n. n + 1) a.epoch;
-  score = b.same.score ∙ a.score;
+  run_model = b.same.run_model ∙ a.run_model;
   nodes = b.same.nodes ∙ a.nodes;
-  later = λ j past. ap (λ (l : List Stage). slice_get l j) b.same.stages ∙ a.stages j (λ is. omega (arith, is, past));
+  later = λ j past. ap (λ (l : List EpochState). slice_get l j) b.same.epoch_states ∙ a.epoch_states j (λ is. omega (arith, is, past));
 }
 
 module _ (boards : List Board) (k : ℕ) (b : Board) (here : slice_get boards k ≡ Some b) (s t : LoopState) (ready : IsReady boards s)
@@ -94,24 +94,24 @@ module _ (boards : List Board) (k : ℕ) (b : Board) (here : slice_get boards k 
   at = (there (plan_of s).epochs k low).1
 
   at_now : IsEpoch (plan_of t) t.epoch e
-  at_now = (λ i. slice_get (come.score i).plan.value.epochs (come.epoch i)) ∙ at
+  at_now = (λ i. slice_get (come.run_model i).plan.value.epochs (come.epoch i)) ∙ at
 
   shape : b.board_shape.shape ≡ e.shape
   shape = ready.boards_are.shape k e b at here
 
-  has_stage : t.epoch < length t.stages.items
-  has_stage = let long = come.between.loop.stages in let inside = slice_get_within (plan_of t).epochs t.epoch e at_now in omega (arith, long, inside)
+  has_epoch_state : t.epoch < length t.epoch_states.items
+  has_epoch_state = let long = come.between.loop.epoch_states in let inside = slice_get_within (plan_of t).epochs t.epoch e at_now in omega (arith, long, inside)
 
-  abbrev g : Stage
-  g = (there t.stages.items t.epoch has_stage).0
+  abbrev g : EpochState
+  g = (there t.epoch_states.items t.epoch has_epoch_state).0
 
-  g_is : HasStage t t.epoch g
-  g_is = (there t.stages.items t.epoch has_stage).1
+  g_is : HasEpochState t t.epoch g
+  g_is = (there t.epoch_states.items t.epoch has_epoch_state).1
 
-  seat : IsFirstSeat (plan_of t) t.score.waves.value t.epoch t.nodes p (table_of b) g.seat
-  seat = subst (λ (x : Score × ℕ × List ℕ). IsFirstSeat x.0.plan.value x.0.waves.value x.1 x.2 p (table_of b) g.seat)
-      (λ i. (sym come.score i, sym come.epoch i, sym come.nodes i))
-      (ready.boards_are.seat k b g here (sym (come.later k (omega arith)) ∙ ((λ i. slice_get t.stages.items (sym come.epoch i)) ∙ g_is)))
+  seat : IsFirstSeat (plan_of t) t.run_model.waves.value t.epoch t.nodes p (table_of b) g.seat
+  seat = subst (λ (x : RunModel × ℕ × List ℕ). IsFirstSeat x.0.plan.value x.0.waves.value x.1 x.2 p (table_of b) g.seat)
+      (λ i. (sym come.run_model i, sym come.epoch i, sym come.nodes i))
+      (ready.boards_are.seat k b g here (sym (come.later k (omega arith)) ∙ ((λ i. slice_get t.epoch_states.items (sym come.epoch i)) ∙ g_is)))
 
   -- the loop begins the epoch
   pub on_board : IsOnBoard p (table_of b) t
@@ -128,12 +128,12 @@ module _ (boards : List Board) (k : ℕ) (b : Board) (here : slice_get boards k 
 -- the thread begins an epoch
 module _ (boards : List Board) (k : ℕ) (b : Board) (here : slice_get boards k ≡ Some b) (s t : LoopState) (ready : IsReady boards s)
     (come : HasCome k s t) (adopted now : List LoopState) (all : All (IsReady boards) adopted) (each : AreEach (HasCome k) adopted now) where
-  pub thread_begins : HasDrivers s → (seat : Known) → IsFirstLead s.score k b seat → IsThread b seat t now
+  pub thread_begins : HasDrivers s → (seat : Known) → IsFirstLead s.run_model k b seat → IsThread b seat t now
   thread_begins has seat lead = record {
-    leads = subst (λ (x : Score × ℕ). IsLeading x.0 x.1 b seat) (λ i. (sym come.score i, sym come.epoch i)) lead.leads;
+    leads = subst (λ (x : RunModel × ℕ). IsLeading x.0 x.1 b seat) (λ i. (sym come.run_model i, sym come.epoch i)) lead.leads;
     stands = on_board boards k b here s t ready come;
     driver = drives_from boards k b here s t ready come has;
-    tied = λ g is some. let none = come.between.none_led in let led = lead.none_led in omega (arith, none, led);
+    led_so_far = λ g is some. let none = come.between.none_led in let led = lead.none_led in omega (arith, none, led);
     adopted_stand = λ j d low. let n = each.count in let inside : j < length adopted = omega (arith, low, n) in
         on_board boards k b here (get_or adopted j d) (get_or now j d) (all j d inside) (each.each j d inside);
   }

@@ -12,5 +12,5 @@ pub mod DoneLemmas
 pub mod PrepareLemmas
 pub mod PlanRunLemmas
 pub mod SendLemmas
-pub mod RunStagesLemmas
+pub mod RunStatesLemmas
 pub mod SeatingLemmas

@@ -50,7 +50,7 @@ module _ (plan : Plan) (n i : ℕ) (loops : List LoopState) (x y : LoopState) (s
   pub all_still : HaveAll plan loops → IsLoop y → HaveAll plan (set loops i y)
   all_still h whole = record {
     each = All-set (λ s. IsLoop s × (plan_of s ≡ plan)) loops i y
-        (whole, ap (λ s. s.plan.value) t.same.score ∙ (subst (λ (s : LoopState). plan_of s ≡ plan) (sym is) (h.each i x inside).1)) h.each;
+        (whole, ap (λ s. s.plan.value) t.same.run_model ∙ (subst (λ (s : LoopState). plan_of s ≡ plan) (sym is) (h.each i x inside).1)) h.each;
     nodes = λ m less. let w = h.nodes m less in (w.0, still m w.0 w.1);
   }
     where
@@ -68,8 +68,8 @@ module _ (plan : Plan) (n i : ℕ) (loops : List LoopState) (x y : LoopState) (s
 
   pub left_taken : (waves : List WavIn) → AreLeftFrom n waves loops → AreLeftFrom (suc n) waves (set loops i y)
   left_taken waves h = record {
-    waves_are = All-set (λ s. s.score.waves.value ≡ waves) loops i y
-        (ap (λ s. s.waves.value) t.same.score ∙ (subst (λ (s : LoopState). s.score.waves.value ≡ waves) (sym is) (h.waves_are i x inside)))
+    waves_are = All-set (λ s. s.run_model.waves.value ≡ waves) loops i y
+        (ap (λ s. s.waves.value) t.same.run_model ∙ (subst (λ (s : LoopState). s.run_model.waves.value ≡ waves) (sym is) (h.waves_are i x inside)))
         h.waves_are;
     done = λ m less. All-set (λ s. IsDoneWith s m) loops i y
         (t.others m (λ same. omega (arith, same, less))
@@ -79,10 +79,10 @@ module _ (plan : Plan) (n i : ℕ) (loops : List LoopState) (x y : LoopState) (s
 
   pub stream_taken : (waves : List WavIn) → HaveAll plan loops → AreLeftFrom n waves loops → stream ≡ end_stream plan waves n
   stream_taken waves all h = t.end (subst (λ (s : LoopState). IsDoneWith s n) (sym is) (h.done n (omega arith) i x inside))
-      ∙ subst (λ (y : Plan × List WavIn). end_stream (plan_of x) x.score.waves.value n ≡ end_stream y.0 y.1 n)
+      ∙ subst (λ (y : Plan × List WavIn). end_stream (plan_of x) x.run_model.waves.value n ≡ end_stream y.0 y.1 n)
       (λ j. (
         (subst (λ (s : LoopState). plan_of s ≡ plan) (sym is) (all.each i x inside).1) j,
-        (subst (λ (s : LoopState). s.score.waves.value ≡ waves) (sym is) (h.waves_are i x inside)) j,
+        (subst (λ (s : LoopState). s.run_model.waves.value ≡ waves) (sym is) (h.waves_are i x inside)) j,
       )) refl
 
 -- the entry of a sink with a format

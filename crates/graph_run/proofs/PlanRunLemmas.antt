@@ -119,5 +119,5 @@ module _ (plan : Plan) (waves : List WavIn) (loops : ℕ) (p : Prepared) (is : I
     done = omega (arith, more, count);
   }
 
-  pub done_of : (done : List LoopState) → AreDone p.shared.score.plan.value p.shared.score.waves.value done → AreDone plan waves done
+  pub done_of : (done : List LoopState) → AreDone p.shared.run_model.plan.value p.shared.run_model.waves.value done → AreDone plan waves done
   done_of done h = subst (λ (x : Plan × List WavIn). AreDone x.0 x.1 done) (λ j. (is.plan_is j, is.waves_are j)) h

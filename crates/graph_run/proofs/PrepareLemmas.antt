@@ -57,7 +57,7 @@ module _ (plan : Plan) (loops n k : ℕ) (of : IsNodeOf (owner_row plan loops) k
 
 module _ (plan : Plan) (waves : List WavIn) (loops : ℕ) (shared : Shared) (xs : List LoopState) (own : LoopState) (rows : List (List Known))
     (ready : AreReady shared.boards loops (xs ++ own ∷ [])) (are : AreLoopsOf plan waves (loop_of plan loops) rows (xs ++ own ∷ []))
-    (plan_is : shared.score.plan.value ≡ plan) (waves_are : shared.score.waves.value ≡ waves)
+    (plan_is : shared.run_model.plan.value ≡ plan) (waves_are : shared.run_model.waves.value ≡ waves)
     (owner : shared.ways.owner ≡ owner_row plan loops) (count : shared.ways.loops ≡ loops) where
   other_is : (i : ℕ) (d : LoopState) → i < length xs → IsLoopOf plan waves (nodes_of_loop (loop_of plan loops) plan i) (get_or rows i []) (get_or xs i d)
   other_is i d low = let long = length-append xs (own ∷ []) in let m = are.count in
@@ -124,7 +124,7 @@ module _ (plan : Plan) (waves : List WavIn) (loops : ℕ) (shared : Shared) (xs 
         (cases_lt k loops)
 
   -- the driver's own loop with its seats and its way
-  pub drives : (drivers : List Known) (way : Way) → AreFirstLeads own.score shared.boards drivers → IsNewWay shared.ways loops way
+  pub drives : (drivers : List Known) (way : Way) → AreFirstLeads own.run_model shared.boards drivers → IsNewWay shared.ways loops way
       → CanDrive shared (record { own = own; drivers = drivers; way = way })
   drives drivers way leads new = let is = own_is shared.boards loops xs own ready plan waves (loop_of plan loops) rows are in record {
     ready = own_ready shared.boards loops xs own ready;

@@ -31,9 +31,9 @@ use Rattle.board_rule.specs.View.{unread, driver_view}
 use Rattle.board_rule.proofs.events.SoundLemmas.{sound_layout}
 use Rattle.activation_words.proofs.MemberLemmas.{new_between}
 use Rattle.io_areas.specs.PooledBoard.{IsPooledBoard}
-use Rattle.node_progress.specs.declared.score.Score.{Score}
+use Rattle.node_progress.specs.declared.run_model.RunModel.{RunModel}
 use Rattle.data_loop.specs.declared.loop_state.LoopState.{LoopState}
-use Rattle.data_loop.specs.declared.stage.Stage.{Stage}
+use Rattle.data_loop.specs.declared.epoch_state.EpochState.{EpochState}
 use Rattle.data_loop.specs.Loops.{plan_of, IsBetweenEpochs}
 use Rattle.data_loop.specs.LoopStart.{IsLoopOf}
 use Rattle.data_loop.specs.LoopsOnBoards.{IsFirstSeat}
@@ -136,9 +136,9 @@ module _ (plan : Plan) (waves : List WavIn) (f : ℕ → ℕ) (loops : ℕ) (sou
         ∙ pooled.sound.known n low)))
 
     -- the driver's seat as the board gave it
-    pub leads_first : (score : Score) → score.plan.value ≡ plan → score.waves.value ≡ waves
-        → IsFirstLead score k b (driver_of plan waves loops (k, b))
-    leads_first score plan_is waves_are = record {
+    pub leads_first : (run_model : RunModel) → run_model.plan.value ≡ plan → run_model.waves.value ≡ waves
+        → IsFirstLead run_model k b (driver_of plan waves loops (k, b))
+    leads_first run_model plan_is waves_are = record {
       leads = record {
         epoch = e;
         at = subst (λ (x : Plan). IsEpoch x k e) (sym plan_is) at;
@@ -165,12 +165,12 @@ module _ (plan : Plan) (waves : List WavIn) (f : ℕ → ℕ) (loops : ℕ) (sou
 
   -- all drivers' seats
   pub first_leads : (drivers : List Known) → drivers ≡ map (driver_of plan waves loops) (enumerate_from 0 boards)
-      → (score : Score) → score.plan.value ≡ plan → score.waves.value ≡ waves → AreFirstLeads score boards drivers
-  first_leads drivers are score plan_is waves_are = record {
+      → (run_model : RunModel) → run_model.plan.value ≡ plan → run_model.waves.value ≡ waves → AreFirstLeads run_model boards drivers
+  first_leads drivers are run_model plan_is waves_are = record {
     count = ap (λ (l : List Known). length l) are ∙ (length-map (enumerate_from 0 boards) (driver_of plan waves loops) ∙ length-enumerate_from 0 boards);
     each = λ k b d here. let low = slice_get_within boards k b here in let e = there plan.epochs k (omega (arith, low, boards_long)) in
-        subst (IsFirstLead score k b) (sym (ap (λ (l : List Known). get_or l k d) are ∙ driver_at plan waves loops boards k b d here))
-        (leads_first k b e.0 here e.1 score plan_is waves_are);
+        subst (IsFirstLead run_model k b) (sym (ap (λ (l : List Known). get_or l k d) are ∙ driver_at plan waves loops boards k b d here))
+        (leads_first k b e.0 here e.1 run_model plan_is waves_are);
   }
 
   -- one of the loops
@@ -186,14 +186,14 @@ module _ (plan : Plan) (waves : List WavIn) (f : ℕ → ℕ) (loops : ℕ) (sou
       boards_are = record {
         count = boards_long ∙ ap (λ (x : Plan). length x.epochs) (sym is.plan_is);
         shape = λ k e b at here. ap (λ (x : BoardShape). x.shape) (board_is k b e here (epochs_are k e at));
-        seat = λ k b g here stage. let low = slice_get_within boards k b here in let e = there plan.epochs k (omega (arith, low, boards_long)) in
+        seat = λ k b g here epoch_state. let low = slice_get_within boards k b here in let e = there plan.epochs k (omega (arith, low, boards_long)) in
             subst (λ (x : Plan × List WavIn × List ℕ). IsFirstSeat x.0 x.1 k x.2 (layout b) (table_of b) g.seat)
             (λ j. (sym is.plan_is j, sym is.waves_are j, sym is.nodes_are j)) record {
               plain = pooled k b e.0 here e.1;
               number = i;
               one = let seats = ap (λ (x : BoardShape). x.seats) (board_is k b e.0 here e.1) in omega (arith, most, seats);
-              is = ap (λ (x : Stage). x.seat) (sym (get_or_from_slice_get s.stages.items k g g stage))
-                  ∙ (sym (get_or-map (λ (x : Stage). x.seat) s.stages.items k g g.seat (slice_get_within s.stages.items k g stage))
+              is = ap (λ (x : EpochState). x.seat) (sym (get_or_from_slice_get s.epoch_states.items k g g epoch_state))
+                  ∙ (sym (get_or-map (λ (x : EpochState). x.seat) s.epoch_states.items k g g.seat (slice_get_within s.epoch_states.items k g epoch_state))
                   ∙ (ap (λ (l : List Known). get_or l k g.seat) is.seats_are ∙ seat_at plan waves loops boards i k b g.seat here));
               owned = λ n own inside apart. seat_is k b e.0 here e.1 n inside ∙ has_loop f plan i n own;
             };

@@ -16,7 +16,7 @@ use Rattle.node_state.specs.contracts.node_state.NodeState as node_row
 use Rattle.ready_queues.specs.contracts.end.End as end_row
 use Rattle.ready_queues.specs.contracts.way.Way as way_row
 use Rattle.data_loop.specs.contracts.own_pools.OwnPools as own_row
-use Rattle.data_loop.specs.contracts.stage.Stage as stage_row
+use Rattle.data_loop.specs.contracts.epoch_state.EpochState as epoch_state_row
 use Rattle.data_loop.specs.contracts.loop_state.LoopState as loop_row
 use Rattle.graph_run.specs.contracts.alone.AloneRun as alone_row
 use Rattle.graph_run.specs.contracts.ended.EndedRun as ended_row
@@ -39,11 +39,11 @@ node_send = search crossing depth 30
 own_field : IsSend own_row.the_field.row
 own_field = search (crossing, pool_send) depth 30 fits 50000
 
-pub stage_send : IsSend stage_row.the_row
-stage_send = let a : IsSend own_row.the_field.row = own_field in search (crossing, seat_send, pool_send) depth 30 fits 50000
+pub epoch_state_send : IsSend epoch_state_row.the_row
+epoch_state_send = let a : IsSend own_row.the_field.row = own_field in search (crossing, seat_send, pool_send) depth 30 fits 50000
 
 pub loop_send : IsSend loop_row.the_row
-loop_send = search (crossing, stage_send, node_send) depth 30
+loop_send = search (crossing, epoch_state_send, node_send) depth 30
 
 pub end_send : IsSend end_row.the_row
 end_send = search crossing depth 30
@@ -53,7 +53,7 @@ way_send = search (crossing, end_send) depth 30
 
 -- the same as fields of a struct
 loop_field : IsSend loop_row.the_field.row
-loop_field = search (crossing, stage_send, node_send) depth 30 fits 50000
+loop_field = search (crossing, epoch_state_send, node_send) depth 30 fits 50000
 
 way_field : IsSend way_row.the_field.row
 way_field = search (crossing, end_send) depth 30 fits 50000

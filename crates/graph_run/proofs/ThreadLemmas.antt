@@ -1,7 +1,7 @@
 -- A loop of a run before it and after it.
 use Rattle.std.proofs.Common.{◌≡◌, List, ap, ◌∙◌, inl}
 use Rattle.board_rule.specs.declared.board.Board.{Board}
-use Rattle.node_progress.specs.declared.score.Score.{Score}
+use Rattle.node_progress.specs.declared.run_model.RunModel.{RunModel}
 use Rattle.data_loop.specs.declared.loop_state.LoopState.{LoopState}
 use Rattle.data_loop.specs.Loops.{plan_of}
 use Rattle.data_loop.specs.LoopWay.{IsUnderWay}
@@ -21,10 +21,10 @@ under_way boards s h = inl (
 )
 
 -- after it the loop is one of the run's plan
-pub done_with : (shared : Shared) (s t : LoopState) → plan_of s ≡ shared.score.plan.value → s.score.waves.value ≡ shared.score.waves.value
+pub done_with : (shared : Shared) (s t : LoopState) → plan_of s ≡ shared.run_model.plan.value → s.run_model.waves.value ≡ shared.run_model.waves.value
     → HasRun s t → IsDoneWith shared t
 done_with shared s t plan_is waves_are h = record {
   done = h.done;
-  plan_is = ap (λ (x : Score). x.plan.value) h.same.score ∙ plan_is;
-  waves_are = ap (λ (x : Score). x.waves.value) h.same.score ∙ waves_are;
+  plan_is = ap (λ (x : RunModel). x.plan.value) h.same.run_model ∙ plan_is;
+  waves_are = ap (λ (x : RunModel). x.waves.value) h.same.run_model ∙ waves_are;
 }

@@ -9,5 +9,5 @@ pub mod PlanRun
 pub mod Outcomes
 pub mod Threads
 pub mod Rooms
-pub mod RunStages
+pub mod RunStates
 pub mod working

@@ -10,10 +10,10 @@ use Rattle.board_rule.specs.declared.board.Board.{Board}
 use Rattle.board_rule.specs.Known.{Known}
 use Rattle.board_rule.specs.Layout.{first}
 use Rattle.board_rule.specs.OnBoard.{layout, table_of}
-use Rattle.node_progress.specs.declared.score.Score.{Score}
+use Rattle.node_progress.specs.declared.run_model.RunModel.{RunModel}
 use Rattle.data_loop.specs.declared.loop_state.LoopState.{LoopState}
-use Rattle.data_loop.specs.declared.stage.Stage.{Stage}
-use Rattle.data_loop.specs.Loops.{plan_of, HasStage, IsBetweenEpochs}
+use Rattle.data_loop.specs.declared.epoch_state.EpochState.{EpochState}
+use Rattle.data_loop.specs.Loops.{plan_of, HasEpochState, IsBetweenEpochs}
 use Rattle.data_loop.specs.LoopsOnBoards.{IsFirstSeat, IsNextOf}
 use Rattle.driver_cycle.specs.Leading.{IsLeading, IsBetween}
 
@@ -22,8 +22,9 @@ pub record AreBoardsFor (boards : List Board) (s : LoopState) : Type 0 where
   pub count : length boards ≡ length (plan_of s).epochs
   pub shape : (k : ℕ) (e : Epoch) (b : Board) → IsEpoch (plan_of s) k e
       → slice_get boards k ≡ Some b → b.board_shape.shape ≡ e.shape
-  pub seat : (k : ℕ) (b : Board) (g : Stage) → slice_get boards k ≡ Some b → HasStage s k g
-      → IsFirstSeat (plan_of s) s.score.waves.value k s.nodes (layout b) (table_of b) g.seat
+  pub seat : (k : ℕ) (b : Board) (g : EpochState) → slice_get boards k ≡ Some b
+      → HasEpochState s k g
+      → IsFirstSeat (plan_of s) s.run_model.waves.value k s.nodes (layout b) (table_of b) g.seat
 
 -- BEFORE THE RUN
 pub record IsReady (boards : List Board) (s : LoopState) : Type 0 where
@@ -41,15 +42,16 @@ HasNoDriver s = (k : ℕ) (e : Epoch) → IsEpoch (plan_of s) k e
     → ¬ (Contains s.nodes e.shape.driver)
 
 -- the driver's seat on the board of epoch k before the first cycle, and those of all boards
-pub record IsFirstLead (score : Score) (k : ℕ) (board : Board) (seat : Known) : Type 0 where
-  pub leads : IsLeading score k board seat
+pub record IsFirstLead (run_model : RunModel) (k : ℕ) (board : Board) (seat : Known) : Type 0 where
+  pub leads : IsLeading run_model k board seat
   pub between : IsBetween (layout board) seat.knows
   pub none_led : seat.knows.lead.cycle ≡ first (layout board)
 
-pub record AreFirstLeads (score : Score) (boards : List Board) (seats : List Known) : Type 0 where
+pub record AreFirstLeads (run_model : RunModel) (boards : List Board)
+    (seats : List Known) : Type 0 where
   pub count : length seats ≡ length boards
   pub each : (k : ℕ) (b : Board) (d : Known) → slice_get boards k ≡ Some b
-      → IsFirstLead score k b (slice_index_or seats k d)
+      → IsFirstLead run_model k b (slice_index_or seats k d)
 
 -- THE LOOPS of a plan, and last the driver's own, which has all drivers, before the run
 pub record AreReady (boards : List Board) (loops : ℕ) (states : List LoopState) : Type 0 where
@@ -62,9 +64,9 @@ pub record AreReady (boards : List Board) (loops : ℕ) (states : List LoopState
 pub record HasCome (k : ℕ) (s t : LoopState) : Type 0 where
   pub between : IsBetweenEpochs t
   pub epoch : t.epoch ≡ k
-  pub score : t.score ≡ s.score
+  pub run_model : t.run_model ≡ s.run_model
   pub nodes : t.nodes ≡ s.nodes
-  pub later : (j : ℕ) → k ≤ j → slice_get t.stages.items j ≡ slice_get s.stages.items j
+  pub later : (j : ℕ) → k ≤ j → slice_get t.epoch_states.items j ≡ slice_get s.epoch_states.items j
 
 -- through one epoch, and only into the next
 abbrev pub HasPassed : LoopState → LoopState → Type 0

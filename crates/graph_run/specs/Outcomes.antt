@@ -16,7 +16,7 @@ HasNodeAt loops n i = (i < length loops)
 pub record IsDoneOf (plan : Plan) (waves : List WavIn) (s : LoopState) : Type 0 where
   pub done : IsDone s
   pub plan_is : plan_of s ≡ plan
-  pub waves_are : s.score.waves.value ≡ waves
+  pub waves_are : s.run_model.waves.value ≡ waves
 
 -- all of them have, and each node of the plan is one of some loop
 pub record AreDone (plan : Plan) (waves : List WavIn) (loops : List LoopState) : Type 0 where
@@ -30,5 +30,5 @@ pub record HaveAll (plan : Plan) (loops : List LoopState) : Type 0 where
 
 -- the streams of the nodes below n may have been moved out of them
 pub record AreLeftFrom (n : ℕ) (waves : List WavIn) (loops : List LoopState) : Type 0 where
-  pub waves_are : All (λ s. s.score.waves.value ≡ waves) loops
+  pub waves_are : All (λ s. s.run_model.waves.value ≡ waves) loops
   pub done : (m : ℕ) → n ≤ m → All (λ s. IsDoneWith s m) loops

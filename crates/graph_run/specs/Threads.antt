@@ -18,8 +18,8 @@ module _ (shared : Shared) where
   pub record CanRun (s : LoopState) : Type 0 where
     pub ready : IsReady shared.boards s
     pub none : HasNoDriver s
-    pub plan_is : plan_of s ≡ shared.score.plan.value
-    pub waves_are : s.score.waves.value ≡ shared.score.waves.value
+    pub plan_is : plan_of s ≡ shared.run_model.plan.value
+    pub waves_are : s.run_model.waves.value ≡ shared.run_model.waves.value
 
   pub record CanStart (given : LoopWay) : Type 0 where
     pub can_run : CanRun given.state
@@ -29,14 +29,14 @@ module _ (shared : Shared) where
   pub record CanDrive (d : Driving) : Type 0 where
     pub ready : IsReady shared.boards d.own
     pub has : HasDrivers d.own
-    pub leads : AreFirstLeads d.own.score shared.boards d.drivers
+    pub leads : AreFirstLeads d.own.run_model shared.boards d.drivers
     pub way : IsDriverWay shared.ways d.way
-    pub plan_is : plan_of d.own ≡ shared.score.plan.value
-    pub waves_are : d.own.score.waves.value ≡ shared.score.waves.value
+    pub plan_is : plan_of d.own ≡ shared.run_model.plan.value
+    pub waves_are : d.own.run_model.waves.value ≡ shared.run_model.waves.value
 
   -- AFTER IT
   abbrev pub IsDoneWith : LoopState → Type 0
-  IsDoneWith = IsDoneOf shared.score.plan.value shared.score.waves.value
+  IsDoneWith = IsDoneOf shared.run_model.plan.value shared.run_model.waves.value
 
 -- the loop has done all epochs
 pub record HasRun (s t : LoopState) : Type 0 where

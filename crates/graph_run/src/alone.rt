@@ -2,7 +2,7 @@
 ghost use Rattle.std.specs.Prelude.{◌≡◌, IfOk};
 ghost use Rattle.pw_graph.specs.SoundPlan.{IsSoundPlan};
 ghost use Rattle.cycle_model.specs.WavesFit.{WavesFit};
-ghost use Rattle.graph_run.specs.RunStages.{IsAloneRun, CanRunAlone, HasRunAlone};
+ghost use Rattle.graph_run.specs.RunStates.{IsAloneRun, CanRunAlone, HasRunAlone};
 
 use crate::ended::EndedRun;
 use crate::leading::{Driving, Led, drive};

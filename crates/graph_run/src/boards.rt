@@ -5,7 +5,7 @@ ghost use Rattle.cycle_model.specs.WavesFit.{WavesFit};
 ghost use Rattle.cycle_model.specs.Expected.{IsShort, AreShort, expected_samples};
 ghost use Rattle.std.specs.List.{enumerate_from, range_with_len};
 ghost use Rattle.graph_run.specs.Seating.{IsSeatingOf, holder_of};
-ghost use Rattle.node_progress.specs.declared.score.Score.{Score};
+ghost use Rattle.node_progress.specs.declared.run_model.RunModel.{RunModel};
 ghost use Rattle.graph_run.specs.Boards.{AreBoardsBy, IsBoardMade, dealt, driver_of, all_seats};
 ghost use Rattle.graph_run.specs.LoopsOnPlan.{AreFirstLeads};
 
@@ -136,8 +136,8 @@ pub fn boards_of(
     ensures rows { IfOk result (λ all. (length all.seats.items ≡ seating.now.loops + 1)
         × All (λ row. length row.list ≡ length plan.now.epochs) all.seats.items) }
     // So the drivers' seats are ready to lead the run.
-    ensures lead { IfOk result (λ all. (score : Score) → score.plan.value ≡ plan.now
-        → score.waves.value ≡ waves.now → AreFirstLeads score all.boards all.drivers) }
+    ensures lead { IfOk result (λ all. (run_model : RunModel) → run_model.plan.value ≡ plan.now
+        → run_model.waves.value ≡ waves.now → AreFirstLeads run_model all.boards all.drivers) }
 {
     look_over_all(waves.as_slice());
     let count = plan.epochs.len();

@@ -13,7 +13,7 @@ ghost use Rattle.graph_run.specs.Leads.{checks_of};
 ghost use Rattle.graph_run.specs.Outcomes.{AreDone};
 ghost use Rattle.graph_run.specs.PlanRun.{IsRunOf};
 ghost use Rattle.graph_run.specs.Rooms.{AreRooms};
-ghost use Rattle.graph_run.specs.RunStages.{IsEndedRun, HasBoardsBy};
+ghost use Rattle.graph_run.specs.RunStates.{IsEndedRun, HasBoardsBy};
 
 use crate::closing::{ClosedBoards, close_all};
 use crate::outcomes::{KeptOf, take_kept};

@@ -52,7 +52,7 @@ pub fn run_epochs<R: Wait, G: Gate, K: Ticker>(
     requires has { HasDrivers own.old }
     requires adopted { All (IsReady course.now.boards.now) adopted.old }
     requires none { All HasNoDriver adopted.old }
-    requires drivers { AreFirstLeads own.old.score course.now.boards.now drivers.old }
+    requires drivers { AreFirstLeads own.old.run_model course.now.boards.now drivers.old }
     requires way { IsDriverWay course.now.ways.now way.old }
     ensures own { HasCome (length course.now.boards.now) own.old own.new }
     ensures adopted { AreEach (HasCome (length course.now.boards.now))

@@ -12,7 +12,7 @@ use crate::seating::loop_seating;
 use crate::shared::{LoopWay, Shared};
 use crate::ways::ways_of;
 use data_loop::{LoopState, Way};
-use node_progress::Score;
+use node_progress::RunModel;
 use pw_graph::Plan;
 use pw_lists::{Items, Memory};
 use std::alloc::Global;
@@ -68,7 +68,7 @@ pub(crate) fn prepare(
         shared: Shared {
             boards: all.boards,
             ways,
-            score: Score::of(plan, waves),
+            run_model: RunModel::of(plan, waves),
         },
         loops,
         driving: Driving {

@@ -9,7 +9,7 @@ use Rattle.std.proofs.lemmas.List.Sums.{sum_by_push}
 use Rattle.graph_script.specs.declared.command.Command.{Command}
 use Rattle.graph_script.specs.declared.command.Command.TheVariants as C
 use Rattle.graph_script.specs.declared.script.Line.{Line}
-use Rattle.graph_script.specs.declared.reading.Said.{Said}
+use Rattle.graph_script.specs.declared.reading.ParsedLine.{ParsedLine}
 use Rattle.graph_script.specs.declared.reading.Reading.{Reading}
 use Rattle.graph_script.specs.Limits.{epochs_limit}
 use Rattle.graph_script.specs.Earlier.{is_epoch, epochs_so_far, names_link, is_linked}
@@ -37,9 +37,9 @@ epochs-push lines line few room = subst (λ n. n ≤ epochs_limit) (sym (count_b
     at true is = omega (arith, room is)
     at false is = few
 
-pub epochs-after : (number : ℕ) (reading : Reading) (said : Said)
-    → epochs_so_far (reading_after number reading (Some said)) ≡ counted (epochs_so_far reading) said.command
-epochs-after number reading said = count_by-push reading.script.lines (record { line = number; command = said.command })
+pub epochs-after : (number : ℕ) (reading : Reading) (parsed : ParsedLine)
+    → epochs_so_far (reading_after number reading (Some parsed)) ≡ counted (epochs_so_far reading) parsed.command
+epochs-after number reading parsed = count_by-push reading.script.lines (record { line = number; command = parsed.command })
 
 -- the nodes that are marked after a command
 marks : (linked : List Bool) (a b n : ℕ) → length linked ≡ 64 → a < 64 → b < 64 → n < 64
@@ -95,11 +95,11 @@ pub length-marked : (linked : List Bool) (command : Command) → length (marked 
 length-marked linked (C.Link from to) = length-set (set linked from.node true) to.node true ∙ length-set linked from.node true
 length-marked linked _ = refl
 
-pub linked-after : (number : ℕ) (reading : Reading) (said : Said) (linked : List Bool) → length linked ≡ 64 → HasNodes 64 said.command
+pub linked-after : (number : ℕ) (reading : Reading) (parsed : ParsedLine) (linked : List Bool) → length linked ≡ 64 → HasNodes 64 parsed.command
     → ((n : ℕ) → n < 64 → get_or linked n false ≡ is_linked reading n) → (n : ℕ) → n < 64
-    → get_or (marked linked said.command) n false ≡ is_linked (reading_after number reading (Some said)) n
-linked-after number reading said linked long there before n lt =
-    let line : Line = record { line = number; command = said.command } in
-    marked-is linked said.command n long there lt
-    ∙ ap (λ x. x || (names_link n said.command || false)) (before n lt)
+    → get_or (marked linked parsed.command) n false ≡ is_linked (reading_after number reading (Some parsed)) n
+linked-after number reading parsed linked long there before n lt =
+    let line : Line = record { line = number; command = parsed.command } in
+    marked-is linked parsed.command n long there lt
+    ∙ ap (λ x. x || (names_link n parsed.command || false)) (before n lt)
     ∙ sym (list_any-append (λ l. names_link n l.command) reading.script.lines (line ∷ []))

@@ -10,7 +10,7 @@ use Rattle.graph_script.specs.declared.fault.ScriptWhy.{ScriptWhy}
 use Rattle.graph_script.specs.declared.fault.ScriptWhy.TheVariants as W
 use Rattle.graph_script.specs.declared.script.Line.{Line}
 use Rattle.graph_script.specs.declared.script.Script.{Script}
-use Rattle.graph_script.specs.declared.reading.Said.{Said}
+use Rattle.graph_script.specs.declared.reading.ParsedLine.{ParsedLine}
 use Rattle.graph_script.specs.declared.reading.Reading.{Reading}
 use Rattle.graph_script.specs.Lexical.{is_allowed, is_line_feed, lines_of, words_of, say_nothing}
 use Rattle.graph_script.specs.Checked.{checked_map}
@@ -34,7 +34,7 @@ use Rattle.graph_script.proofs.TextLemmas.{words_joined, length_split, joined_sh
 abbrev pub Ran : ℕ → Reading → List (List ℕ) → Reading → Type 0
 Ran n reading [] final = reading ≡ final
 Ran n reading (line ∷ lines) final =
-    (o : Option Said) × (meaning_of_line reading line ≡ Ok o) × Ran (n + 1) (reading_after n reading o) lines final
+    (o : Option ParsedLine) × (meaning_of_line reading line ≡ Ok o) × Ran (n + 1) (reading_after n reading o) lines final
 
 pub record HasRun (n : ℕ) (reading : Reading) (lines : List (List ℕ)) (script : Script) : Type 0 where
   pub final : Reading
@@ -48,8 +48,8 @@ has_run n reading [] script e = record { final = reading; is = cc; ran = refl }
 has_run n reading (line ∷ lines) script e =
     at (meaning_of_line reading line) refl (λ o h. has_run (n + 1) (reading_after n reading o) lines script h) e
   where
-    at : (m : Result (Option Said) ScriptWhy) → meaning_of_line reading line ≡ m
-        → ((o : Option Said) → script_from (n + 1) (reading_after n reading o) lines ≡ Ok script
+    at : (m : Result (Option ParsedLine) ScriptWhy) → meaning_of_line reading line ≡ m
+        → ((o : Option ParsedLine) → script_from (n + 1) (reading_after n reading o) lines ≡ Ok script
         → HasRun (n + 1) (reading_after n reading o) lines script)
         → and_then (reading_with n reading m) (λ next. script_from (n + 1) next lines) ≡ Ok script
         → HasRun n reading (line ∷ lines) script
@@ -60,8 +60,8 @@ has_run n reading (line ∷ lines) script e =
 abbrev pub rest_of : (n : ℕ) (reading : Reading) (lines : List (List ℕ)) (final : Reading) → Ran n reading lines final → List Line
 rest_of n reading [] final ran = []
 rest_of n reading (line ∷ lines) final (None, means, ran) = rest_of (n + 1) reading lines final ran
-rest_of n reading (line ∷ lines) final (Some said, means, ran) =
-    record { line = n; command = said.command } ∷ rest_of (n + 1) (reading_after n reading (Some said)) lines final ran
+rest_of n reading (line ∷ lines) final (Some parsed, means, ran) =
+    record { line = n; command = parsed.command } ∷ rest_of (n + 1) (reading_after n reading (Some parsed)) lines final ran
 
 pub rest_later : (n : ℕ) (reading : Reading) (lines : List (List ℕ)) (final : Reading) (ran : Ran n reading lines final)
     → All (λ l. n ≤ l.line) (rest_of n reading lines final ran)
@@ -69,9 +69,9 @@ rest_later n reading [] final ran = All-nil (λ l. n ≤ l.line)
 rest_later n reading (line ∷ lines) final (None, means, ran) =
     All-weaker (λ l. n + 1 ≤ l.line) (λ l. n ≤ l.line) (λ l h. omega arith) (rest_of (n + 1) reading lines final ran)
     (rest_later (n + 1) reading lines final ran)
-rest_later n reading (line ∷ lines) final (Some said, means, ran) =
-    let next = reading_after n reading (Some said) in
-    All-cons (λ l. n ≤ l.line) (record { line = n; command = said.command }) (rest_of (n + 1) next lines final ran) (omega arith)
+rest_later n reading (line ∷ lines) final (Some parsed, means, ran) =
+    let next = reading_after n reading (Some parsed) in
+    All-cons (λ l. n ≤ l.line) (record { line = n; command = parsed.command }) (rest_of (n + 1) next lines final ran) (omega arith)
     (All-weaker (λ l. n + 1 ≤ l.line) (λ l. n ≤ l.line) (λ l h. omega arith) (rest_of (n + 1) next lines final ran)
     (rest_later (n + 1) next lines final ran))
 
@@ -79,10 +79,10 @@ pub rest_is : (n : ℕ) (reading : Reading) (lines : List (List ℕ)) (final : R
     → final.script.lines ≡ reading.script.lines ++ rest_of n reading lines final ran
 rest_is n reading [] final ran = ap (λ r. r.script.lines) (sym ran) ∙ sym (append-nil reading.script.lines)
 rest_is n reading (line ∷ lines) final (None, means, ran) = rest_is (n + 1) reading lines final ran
-rest_is n reading (line ∷ lines) final (Some said, means, ran) =
-    let next = reading_after n reading (Some said) in
+rest_is n reading (line ∷ lines) final (Some parsed, means, ran) =
+    let next = reading_after n reading (Some parsed) in
     rest_is (n + 1) next lines final ran
-    ∙ append_assoc reading.script.lines (record { line = n; command = said.command } ∷ []) (rest_of (n + 1) next lines final ran)
+    ∙ append_assoc reading.script.lines (record { line = n; command = parsed.command } ∷ []) (rest_of (n + 1) next lines final ran)
 
 -- their numbers do not fall
 from_weaker : (n : ℕ) (lines : List Line) → AreFrom (n + 1) lines → AreFrom n lines
@@ -94,8 +94,8 @@ rest_from : (n : ℕ) (reading : Reading) (lines : List (List ℕ)) (final : Rea
 rest_from n reading [] final ran = tt
 rest_from n reading (line ∷ lines) final (None, means, ran) =
     from_weaker n (rest_of (n + 1) reading lines final ran) (rest_from (n + 1) reading lines final ran)
-rest_from n reading (line ∷ lines) final (Some said, means, ran) =
-    let next = reading_after n reading (Some said) in
+rest_from n reading (line ∷ lines) final (Some parsed, means, ran) =
+    let next = reading_after n reading (Some parsed) in
     (omega arith, from_weaker n (rest_of (n + 1) next lines final ran) (rest_from (n + 1) next lines final ran))
 
 -- what a line keeps
@@ -104,12 +104,12 @@ pub record IsGood (n : ℕ) (reading : Reading) : Type 0 where
   pub before : AreBefore n reading
   pub sound : IsSound reading
 
-good_after : (n : ℕ) (reading : Reading) (line : List ℕ) (said : Said) → meaning_of_line reading line ≡ Ok (Some said)
-    → IsGood n reading → IsGood (n + 1) (reading_after n reading (Some said))
-good_after n reading line said means good = record {
+good_after : (n : ℕ) (reading : Reading) (line : List ℕ) (parsed : ParsedLine) → meaning_of_line reading line ≡ Ok (Some parsed)
+    → IsGood n reading → IsGood (n + 1) (reading_after n reading (Some parsed))
+good_after n reading line parsed means good = record {
   one = omega arith;
-  before = before-after n reading said good.before;
-  sound = reading_after-sound n reading said good.one good.before good.sound (from_words reading line said means);
+  before = before-after n reading parsed good.before;
+  sound = reading_after-sound n reading parsed good.one good.before good.sound (from_words reading line parsed means);
 }
 
 good_more : (n : ℕ) (reading : Reading) → IsGood n reading → IsGood (n + 1) reading
@@ -119,8 +119,8 @@ pub good_final : (n : ℕ) (reading : Reading) (lines : List (List ℕ)) (final 
     → IsSound final
 good_final n reading [] final good ran = subst IsSound ran good.sound
 good_final n reading (line ∷ lines) final good (None, means, ran) = good_final (n + 1) reading lines final (good_more n reading good) ran
-good_final n reading (line ∷ lines) final good (Some said, means, ran) =
-    good_final (n + 1) (reading_after n reading (Some said)) lines final (good_after n reading line said means good) ran
+good_final n reading (line ∷ lines) final good (Some parsed, means, ran) =
+    good_final (n + 1) (reading_after n reading (Some parsed)) lines final (good_after n reading line parsed means good) ran
 
 -- the final names and kinds begin with those so far
 front : (n : ℕ) (reading : Reading) (lines : List (List ℕ)) (final : Reading) → IsGood n reading → Ran n reading lines final
@@ -133,10 +133,10 @@ front n reading [] final good ran = record {
   named = good.sound.named;
 }
 front n reading (line ∷ lines) final good (None, means, ran) = front (n + 1) reading lines final (good_more n reading good) ran
-front n reading (line ∷ lines) final good (Some said, means, ran) =
-    let next = front (n + 1) (reading_after n reading (Some said)) lines final (good_after n reading line said means good) ran in
-    let name = option_to_list (option_map (λ m. m.name) said.made) in
-    let kind = option_to_list (option_map (λ m. m.kind) said.made) in
+front n reading (line ∷ lines) final good (Some parsed, means, ran) =
+    let next = front (n + 1) (reading_after n reading (Some parsed)) lines final (good_after n reading line parsed means good) ran in
+    let name = option_to_list (option_map (λ m. m.name) parsed.made) in
+    let kind = option_to_list (option_map (λ m. m.kind) parsed.made) in
     record {
       more_names = name ++ next.more_names;
       names_are = next.names_are ∙ append_assoc reading.script.names name next.more_names;
@@ -146,35 +146,35 @@ front n reading (line ∷ lines) final good (Some said, means, ran) =
     }
 
 -- what a line's words mean, and its bytes
-pub record Means (reading : Reading) (line : List ℕ) (said : Said) : Type 0 where
+pub record Means (reading : Reading) (line : List ℕ) (parsed : ParsedLine) : Type 0 where
   pub allowed : list_all is_allowed line ≡ true
   pub says : say_nothing (words_of line) ≡ false
-  pub words : meaning_of_words reading (words_of line) ≡ Ok said
+  pub words : meaning_of_words reading (words_of line) ≡ Ok parsed
 
-means_line : (reading : Reading) (line : List ℕ) (said : Said) → meaning_of_line reading line ≡ Ok (Some said) → Means reading line said
+means_line : (reading : Reading) (line : List ℕ) (parsed : ParsedLine) → meaning_of_line reading line ≡ Ok (Some parsed) → Means reading line parsed
 unfolding meaning_of_line
-means_line reading line said = at_bytes (list_all is_allowed line) refl
+means_line reading line parsed = at_bytes (list_all is_allowed line) refl
   where
-    at_map : (r : Result Said ScriptWhy) → meaning_of_words reading (words_of line) ≡ r → checked_map (λ s. Some s) r ≡ Ok (Some said)
-        → meaning_of_words reading (words_of line) ≡ Ok said
+    at_map : (r : Result ParsedLine ScriptWhy) → meaning_of_words reading (words_of line) ≡ r → checked_map (λ s. Some s) r ≡ Ok (Some parsed)
+        → meaning_of_words reading (words_of line) ≡ Ok parsed
     at_map (Err why) is e = cc
-    at_map (Ok s) is e = let same : s ≡ said = cc in is ∙ ap (λ x. Ok x) same
+    at_map (Ok s) is e = let same : s ≡ parsed = cc in is ∙ ap (λ x. Ok x) same
 
     at_words : (b : Bool) → say_nothing (words_of line) ≡ b → list_all is_allowed line ≡ true
-        → (if b then Ok None else checked_map (λ s. Some s) (meaning_of_words reading (words_of line))) ≡ Ok (Some said)
-        → Means reading line said
+        → (if b then Ok None else checked_map (λ s. Some s) (meaning_of_words reading (words_of line))) ≡ Ok (Some parsed)
+        → Means reading line parsed
     at_words true is allowed e = cc
     at_words false is allowed e = record { allowed = allowed; says = is; words = at_map (meaning_of_words reading (words_of line)) refl e }
 
     at_bytes : (b : Bool) → list_all is_allowed line ≡ b → (if not b then Err W.Byte
         else (if say_nothing (words_of line) then Ok None else checked_map (λ s. Some s) (meaning_of_words reading (words_of line))))
-        ≡ Ok (Some said) → Means reading line said
+        ≡ Ok (Some parsed) → Means reading line parsed
     at_bytes false is e = cc
     at_bytes true is e = at_words (say_nothing (words_of line)) refl is e
 
-line_means : (reading : Reading) (line : List ℕ) (said : Said) → Means reading line said → meaning_of_line reading line ≡ Ok (Some said)
+line_means : (reading : Reading) (line : List ℕ) (parsed : ParsedLine) → Means reading line parsed → meaning_of_line reading line ≡ Ok (Some parsed)
 unfolding meaning_of_line
-line_means reading line said means =
+line_means reading line parsed means =
     ap (λ b. if not b then Err W.Byte
     else (if say_nothing (words_of line) then Ok None else checked_map (λ s. Some s) (meaning_of_words reading (words_of line)))) means.allowed
     ∙ ap (λ b. if b then Ok None else checked_map (λ s. Some s) (meaning_of_words reading (words_of line))) means.says
@@ -185,14 +185,14 @@ unfolding meaning_of_line
 empty_means reading = refl
 
 -- THE LINE that is written of what a line says: it has no line feed, means the same, and is not longer
-pub record IsRewritten (reading : Reading) (line text : List ℕ) (said : Said) : Type 0 where
+pub record IsRewritten (reading : Reading) (line text : List ℕ) (parsed : ParsedLine) : Type 0 where
   pub bytes : All (λ b. is_line_feed b ≡ false) text
-  pub means : meaning_of_line reading text ≡ Ok (Some said)
+  pub means : meaning_of_line reading text ≡ Ok (Some parsed)
   pub shorter : length text ≤ length line
 
-rewritten_words : (reading : Reading) (line first : List ℕ) (others : List (List ℕ)) (said : Said) → All (λ b. is_line_feed b ≡ false) line
-    → Means reading line said → first ∷ others ≡ words_of line → IsRewritten reading line (first ++ spaced others) said
-rewritten_words reading line first others said feedless means e =
+rewritten_words : (reading : Reading) (line first : List ℕ) (others : List (List ℕ)) (parsed : ParsedLine) → All (λ b. is_line_feed b ≡ false) line
+    → Means reading line parsed → first ∷ others ≡ words_of line → IsRewritten reading line (first ++ spaced others) parsed
+rewritten_words reading line first others parsed feedless means e =
     let all = subst (All IsWord) (sym e) (words-are line (line_bytes line means.allowed feedless)) in
     let h = All-head IsWord first others all in
     let hs = All-tail IsWord first others all in
@@ -200,7 +200,7 @@ rewritten_words reading line first others said feedless means e =
     let same : words_of (first ++ spaced others) ≡ words_of line = words_joined first others h hs ∙ e in
     record {
       bytes = All-weaker IsLineByte (λ b. is_line_feed b ≡ false) (λ b q. q.in_line) (first ++ spaced others) bytes;
-      means = line_means reading (first ++ spaced others) said (record {
+      means = line_means reading (first ++ spaced others) parsed (record {
         allowed = allowed_all (first ++ spaced others) bytes;
         says = ap say_nothing same ∙ means.says;
         words = ap (meaning_of_words reading) same ∙ means.words;
@@ -208,25 +208,25 @@ rewritten_words reading line first others said feedless means e =
       shorter = joined_shorter line first others (sym e);
     }
 
-rewritten : (n : ℕ) (reading : Reading) (line : List ℕ) (lines : List (List ℕ)) (final : Reading) (said : Said) → IsGood n reading
-    → All (λ b. is_line_feed b ≡ false) line → meaning_of_line reading line ≡ Ok (Some said)
-    → Ran (n + 1) (reading_after n reading (Some said)) lines final
-    → IsRewritten reading line (line_text final.script.names final.kinds said.command) said
-rewritten n reading line lines final said good feedless means ran =
-    let m = means_line reading line said means in
-    let f = front (n + 1) (reading_after n reading (Some said)) lines final (good_after n reading line said means good) ran in
-    let here : IsFrontAfter reading said final.script.names final.kinds = record {
+rewritten : (n : ℕ) (reading : Reading) (line : List ℕ) (lines : List (List ℕ)) (final : Reading) (parsed : ParsedLine) → IsGood n reading
+    → All (λ b. is_line_feed b ≡ false) line → meaning_of_line reading line ≡ Ok (Some parsed)
+    → Ran (n + 1) (reading_after n reading (Some parsed)) lines final
+    → IsRewritten reading line (line_text final.script.names final.kinds parsed.command) parsed
+rewritten n reading line lines final parsed good feedless means ran =
+    let m = means_line reading line parsed means in
+    let f = front (n + 1) (reading_after n reading (Some parsed)) lines final (good_after n reading line parsed means good) ran in
+    let here : IsFrontAfter reading parsed final.script.names final.kinds = record {
       more_names = f.more_names;
       names_are = f.names_are;
       more_kinds = f.more_kinds;
       kinds_are = f.kinds_are;
       named = f.named;
     } in
-    rewritten_words reading line (command_word said.command) (args_of final.script.names final.kinds said.command) said feedless m
-    (words_spelled reading final.script.names final.kinds (words_of line) said m.words here)
+    rewritten_words reading line (command_word parsed.command) (args_of final.script.names final.kinds parsed.command) parsed feedless m
+    (words_spelled reading final.script.names final.kinds (words_of line) parsed m.words here)
 
 -- one line of a text, and the text of the lines after it
-step : (names : List (List ℕ)) (kinds : List Kind) (n : ℕ) (reading : Reading) (line : List ℕ) (o : Option Said) (rest : List Line)
+step : (names : List (List ℕ)) (kinds : List Kind) (n : ℕ) (reading : Reading) (line : List ℕ) (o : Option ParsedLine) (rest : List Line)
     → All (λ b. is_line_feed b ≡ false) line → All (λ l. n + 1 ≤ l.line) rest → meaning_of_line reading line ≡ Ok o
     → script_from n reading (lines_of (line ++ text_from names kinds n rest))
     ≡ script_from (n + 1) (reading_after n reading o) (lines_of (text_from names kinds (n + 1) rest))
@@ -260,18 +260,18 @@ again n reading (line ∷ lines) final good feedless (None, means, ran) =
     step names final.kinds n reading [] None (rest_of (n + 1) reading lines final ran) (All-nil (λ b. is_line_feed b ≡ false))
     (rest_later (n + 1) reading lines final ran) (empty_means reading)
     ∙ again (n + 1) reading lines final (good_more n reading good) tail ran
-again n reading (line ∷ lines) final good feedless (Some said, means, ran) =
+again n reading (line ∷ lines) final good feedless (Some parsed, means, ran) =
     let names = final.script.names in
-    let next = reading_after n reading (Some said) in
+    let next = reading_after n reading (Some parsed) in
     let rest = rest_of (n + 1) next lines final ran in
     let tail = All-tail (All (λ b. is_line_feed b ≡ false)) line lines feedless in
-    let here = rewritten n reading line lines final said good (All-head (All (λ b. is_line_feed b ≡ false)) line lines feedless) means ran in
+    let here = rewritten n reading line lines final parsed good (All-head (All (λ b. is_line_feed b ≡ false)) line lines feedless) means ran in
     let none : n - n ≡ 0 = omega arith in
-    ap (λ k. script_from n reading (lines_of (replicate k 0x0A ++ line_text names final.kinds said.command
+    ap (λ k. script_from n reading (lines_of (replicate k 0x0A ++ line_text names final.kinds parsed.command
     ++ text_from names final.kinds n rest))) none
-    ∙ step names final.kinds n reading (line_text names final.kinds said.command) (Some said) rest here.bytes
+    ∙ step names final.kinds n reading (line_text names final.kinds parsed.command) (Some parsed) rest here.bytes
     (rest_later (n + 1) next lines final ran) here.means
-    ∙ again (n + 1) next lines final (good_after n reading line said means good) tail ran
+    ∙ again (n + 1) next lines final (good_after n reading line parsed means good) tail ran
 
 -- how long the text of further lines is, with the line feed before it
 abbrev pub further : List (List ℕ) → List Kind → ℕ → List Line → ℕ
@@ -303,20 +303,20 @@ shorter n reading (line ∷ lines) final good feedless (None, means, ran) =
     let more = shorter (n + 1) reading lines final (good_more n reading good) tail ran in
     let whole = length-append line (spaced lines) in
     omega arith
-shorter n reading (line ∷ lines) final good feedless (Some said, means, ran) =
+shorter n reading (line ∷ lines) final good feedless (Some parsed, means, ran) =
     let names = final.script.names in
-    let next = reading_after n reading (Some said) in
+    let next = reading_after n reading (Some parsed) in
     let rest = rest_of (n + 1) next lines final ran in
     let tail = All-tail (All (λ b. is_line_feed b ≡ false)) line lines feedless in
-    let here = rewritten n reading line lines final said good (All-head (All (λ b. is_line_feed b ≡ false)) line lines feedless) means ran in
-    let text = line_text names final.kinds said.command in
+    let here = rewritten n reading line lines final parsed good (All-head (All (λ b. is_line_feed b ≡ false)) line lines feedless) means ran in
+    let text = line_text names final.kinds parsed.command in
     let none : n - n ≡ 0 = omega arith in
-    let first : length (text_from names final.kinds n (record { line = n; command = said.command } ∷ rest))
+    let first : length (text_from names final.kinds n (record { line = n; command = parsed.command } ∷ rest))
     ≡ length text + length (text_from names final.kinds n rest) =
     ap (λ k. length (replicate k 0x0A ++ text ++ text_from names final.kinds n rest)) none
     ∙ length-append text (text_from names final.kinds n rest) in
     let last = further_later names final.kinds n rest (rest_later (n + 1) next lines final ran) in
-    let more = shorter (n + 1) next lines final (good_after n reading line said means good) tail ran in
+    let more = shorter (n + 1) next lines final (good_after n reading line parsed means good) tail ran in
     let whole = length-append line (spaced lines) in
     let few = here.shorter in
     omega arith

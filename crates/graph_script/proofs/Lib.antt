@@ -16,6 +16,6 @@ pub mod SoundLemmas
 pub mod SpacedLemmas
 pub mod SpelledLemmas
 pub mod TextLemmas
-pub mod TiedLemmas
+pub mod ConsistentLemmas
 pub mod WordLemmas
 pub mod WorkedRows

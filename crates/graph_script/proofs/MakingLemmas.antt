@@ -6,7 +6,7 @@ use Rattle.pw_graph.specs.declared.kind.Kind.{Kind}
 use Rattle.graph_script.specs.declared.command.Command.{Command}
 use Rattle.graph_script.specs.declared.script.Line.{Line}
 use Rattle.graph_script.specs.declared.reading.Made.{Made}
-use Rattle.graph_script.specs.declared.reading.Said.{Said}
+use Rattle.graph_script.specs.declared.reading.ParsedLine.{ParsedLine}
 use Rattle.graph_script.specs.declared.reading.Reading.{Reading}
 use Rattle.graph_script.specs.Kinds.{made_by}
 use Rattle.graph_script.specs.Ranges.{HasNodes}
@@ -36,15 +36,15 @@ next_by : (count : ℕ) (made : Option Made) → IfSome {T = ℕ × Kind} (optio
 next_by count None = tt
 next_by count (Some m) = refl
 
-pub grown-added : (reading : Reading) (said : Said) → IsFit reading said
-    → grown (length reading.script.names) said.command ≡ length reading.script.names + added said.made
-grown-added reading said fit =
+pub grown-added : (reading : Reading) (parsed : ParsedLine) → IsFit reading parsed
+    → grown (length reading.script.names) parsed.command ≡ length reading.script.names + added parsed.made
+grown-added reading parsed fit =
     ap (λ (m : Option (ℕ × Kind)). option_map_or (λ x. x.0 + 1) m (length reading.script.names)) fit.made
-    ∙ grown_by (length reading.script.names) said.made
+    ∙ grown_by (length reading.script.names) parsed.made
 
-pub fit-makes : (reading : Reading) (said : Said) → IsFit reading said → MakesNext (length reading.script.names) said.command
-fit-makes reading said fit = (
+pub fit-makes : (reading : Reading) (parsed : ParsedLine) → IsFit reading parsed → MakesNext (length reading.script.names) parsed.command
+fit-makes reading parsed fit = (
   subst (λ (m : Option (ℕ × Kind)). IfSome m (λ x. x.0 ≡ length reading.script.names)) (sym fit.made)
-      (next_by (length reading.script.names) said.made),
-  subst (λ n. HasNodes n said.command) (sym (grown-added reading said fit)) fit.nodes,
+      (next_by (length reading.script.names) parsed.made),
+  subst (λ n. HasNodes n parsed.command) (sym (grown-added reading parsed fit)) fit.nodes,
 )

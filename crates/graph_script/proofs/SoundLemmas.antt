@@ -10,7 +10,7 @@ use Rattle.graph_script.specs.declared.fault.ScriptWhy.{ScriptWhy}
 use Rattle.graph_script.specs.declared.fault.ScriptWhy.TheVariants as W
 use Rattle.graph_script.specs.declared.script.Line.{Line}
 use Rattle.graph_script.specs.declared.reading.Made.{Made}
-use Rattle.graph_script.specs.declared.reading.Said.{Said}
+use Rattle.graph_script.specs.declared.reading.ParsedLine.{ParsedLine}
 use Rattle.graph_script.specs.declared.reading.Reading.{Reading}
 use Rattle.graph_script.specs.Limits.{nodes_limit}
 use Rattle.graph_script.specs.Lexical.{words_of, say_nothing, is_allowed}
@@ -64,41 +64,41 @@ count-after reading None le h = omega arith
 count-after reading (Some m) le h = omega (arith, h.1)
 
 -- the order of lines and names after one more
-order-after : (number : ℕ) (reading : Reading) (said : Said) → AreBefore number reading → HasOrder reading.script → IsFit reading said
+order-after : (number : ℕ) (reading : Reading) (parsed : ParsedLine) → AreBefore number reading → HasOrder reading.script → IsFit reading parsed
     → all_grown 0 reading.script.lines ≡ length reading.script.names
-    → HasOrder (reading_after number reading (Some said)).script
-order-after number reading said before order fit grown =
-    let line : Line = record { line = number; command = said.command } in
+    → HasOrder (reading_after number reading (Some parsed)).script
+order-after number reading parsed before order fit grown =
+    let line : Line = record { line = number; command = parsed.command } in
     record {
       ascend = all_pairs_push (λ a b. a.line < b.line) reading.script.lines line order.ascend (λ k d lt. before k d lt);
-      distinct = distinct-after reading said.made order.distinct fit.form;
-      other = other-after reading said.made order.other fit.form;
+      distinct = distinct-after reading parsed.made order.distinct fit.form;
+      other = other-after reading parsed.made order.other fit.form;
       epochs = epochs-push reading.script.lines line order.epochs fit.epochs;
-      made = names-push 0 reading.script.lines line order.made (rw grown (fit-makes reading said fit));
+      made = names-push 0 reading.script.lines line order.made (rw grown (fit-makes reading parsed fit));
     }
 
-pub reading_after-sound : (number : ℕ) (reading : Reading) (said : Said) → 1 ≤ number → AreBefore number reading → IsSound reading
-    → IsFit reading said → IsSound (reading_after number reading (Some said))
-reading_after-sound number reading said one before sound fit =
+pub reading_after-sound : (number : ℕ) (reading : Reading) (parsed : ParsedLine) → 1 ≤ number → AreBefore number reading → IsSound reading
+    → IsFit reading parsed → IsSound (reading_after number reading (Some parsed))
+reading_after-sound number reading parsed one before sound fit =
     let count = length reading.script.names in
-    let line : Line = record { line = number; command = said.command } in
-    let more = option_to_list (option_map (λ m. m.kind) said.made) in
-    let grown_names : length (reading.script.names ++ option_to_list (option_map (λ m. m.name) said.made)) ≡ count + added said.made =
-    length-added reading.script.names (λ m. m.name) said.made in
+    let line : Line = record { line = number; command = parsed.command } in
+    let more = option_to_list (option_map (λ m. m.kind) parsed.made) in
+    let grown_names : length (reading.script.names ++ option_to_list (option_map (λ m. m.name) parsed.made)) ≡ count + added parsed.made =
+    length-added reading.script.names (λ m. m.name) parsed.made in
     record {
       script = record {
         numbered = All-push (λ l. 1 ≤ l.line) reading.script.lines line sound.script.numbered one;
         ranges = All-push (λ l. IsInRange l.command) reading.script.lines line sound.script.ranges fit.range;
-        nodes = rw grown_names (All-push (λ l. HasNodes (count + added said.made) l.command) reading.script.lines line
-            (λ k d lt. HasNodes-more count (count + added said.made) _ (omega arith) (sound.script.nodes k d lt)) fit.nodes);
-        count = rw grown_names (count-after reading said.made sound.script.count fit.form);
-        names = names-after reading said.made sound.script.names fit.form;
+        nodes = rw grown_names (All-push (λ l. HasNodes (count + added parsed.made) l.command) reading.script.lines line
+            (λ k d lt. HasNodes-more count (count + added parsed.made) _ (omega arith) (sound.script.nodes k d lt)) fit.nodes);
+        count = rw grown_names (count-after reading parsed.made sound.script.count fit.form);
+        names = names-after reading parsed.made sound.script.names fit.form;
       };
-      order = order-after number reading said before sound.order fit sound.grown;
-      made = made-after reading.script.lines line reading.kinds said.made sound.made (rw sound.named fit.made);
-      grown = all_grown-push 0 reading.script.lines line ∙ ap (λ n. grown n said.command) sound.grown
-          ∙ grown-added reading said fit ∙ sym grown_names;
-      named = length-added reading.kinds (λ m. m.kind) said.made ∙ ap (λ n. n + added said.made) sound.named ∙ sym grown_names;
+      order = order-after number reading parsed before sound.order fit sound.grown;
+      made = made-after reading.script.lines line reading.kinds parsed.made sound.made (rw sound.named fit.made);
+      grown = all_grown-push 0 reading.script.lines line ∙ ap (λ n. grown n parsed.command) sound.grown
+          ∙ grown-added reading parsed fit ∙ sym grown_names;
+      named = length-added reading.kinds (λ m. m.kind) parsed.made ∙ ap (λ n. n + added parsed.made) sound.named ∙ sym grown_names;
       ports = All-push (λ l. HasPorts (reading.kinds ++ more) l.command) reading.script.lines line
           (λ k d lt. HasPorts-more reading.kinds more _ (rw sound.named (sound.script.nodes k d lt)) (sound.ports k d lt))
           fit.ports;
@@ -108,32 +108,32 @@ reading_after-sound number reading said one before sound fit =
 pub before-more : (number : ℕ) (reading : Reading) → AreBefore number reading → AreBefore (number + 1) reading
 before-more number reading before = λ k d lt. omega (arith, before k d lt)
 
-pub before-after : (number : ℕ) (reading : Reading) (said : Said) → AreBefore number reading
-    → AreBefore (number + 1) (reading_after number reading (Some said))
-before-after number reading said before =
-    All-push (λ l. l.line < number + 1) reading.script.lines (record { line = number; command = said.command })
+pub before-after : (number : ℕ) (reading : Reading) (parsed : ParsedLine) → AreBefore number reading
+    → AreBefore (number + 1) (reading_after number reading (Some parsed))
+before-after number reading parsed before =
+    All-push (λ l. l.line < number + 1) reading.script.lines (record { line = number; command = parsed.command })
     (before-more number reading before) (omega arith)
 
 -- a line that has a meaning says nothing, or what its words mean
-pub from_words : (reading : Reading) (line : List ℕ) (said : Said) → meaning_of_line reading line ≡ Ok (Some said)
-    → IsFit reading said
+pub from_words : (reading : Reading) (line : List ℕ) (parsed : ParsedLine) → meaning_of_line reading line ≡ Ok (Some parsed)
+    → IsFit reading parsed
 unfolding meaning_of_line
-from_words reading line said = at_bytes (not (list_all is_allowed line))
+from_words reading line parsed = at_bytes (not (list_all is_allowed line))
   where
-    at_map : (r : Result Said ScriptWhy) → meaning_of_words reading (words_of line) ≡ r
-        → checked_map (λ s. Some s) r ≡ Ok (Some said) → IsFit reading said
+    at_map : (r : Result ParsedLine ScriptWhy) → meaning_of_words reading (words_of line) ≡ r
+        → checked_map (λ s. Some s) r ≡ Ok (Some parsed) → IsFit reading parsed
     at_map (Err why) is e = cc
-    at_map (Ok s) is e = let same : s ≡ said = cc in
-        meaning_of_words-fits reading (words_of line) said (is ∙ ap (λ x. Ok x) same)
+    at_map (Ok s) is e = let same : s ≡ parsed = cc in
+        meaning_of_words-fits reading (words_of line) parsed (is ∙ ap (λ x. Ok x) same)
 
     at_words : (b : Bool) → (if b then Ok None else checked_map (λ s. Some s) (meaning_of_words reading (words_of line)))
-        ≡ Ok (Some said) → IsFit reading said
+        ≡ Ok (Some parsed) → IsFit reading parsed
     at_words true e = cc
     at_words false e = at_map (meaning_of_words reading (words_of line)) refl e
 
     at_bytes : (b : Bool) → (if b then Err W.Byte
         else (if say_nothing (words_of line) then Ok None else checked_map (λ s. Some s) (meaning_of_words reading (words_of line))))
-        ≡ Ok (Some said) → IsFit reading said
+        ≡ Ok (Some parsed) → IsFit reading parsed
     at_bytes true e = cc
     at_bytes false e = at_words (say_nothing (words_of line)) e
 

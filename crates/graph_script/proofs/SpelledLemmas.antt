@@ -15,7 +15,7 @@ use Rattle.graph_script.specs.declared.command.Command.{Command}
 use Rattle.graph_script.specs.declared.command.Command.TheVariants as C
 use Rattle.graph_script.specs.declared.name.Name.{Name}
 use Rattle.graph_script.specs.declared.name.Name.TheVariants as N
-use Rattle.graph_script.specs.declared.reading.Said.{Said}
+use Rattle.graph_script.specs.declared.reading.ParsedLine.{ParsedLine}
 use Rattle.graph_script.specs.declared.reading.Reading.{Reading}
 use Rattle.graph_script.specs.Limits.{nodes_limit, epochs_limit, period_limit, amp_limit, gain_limit, delay_limit, priority_limit, loop_limit}
 use Rattle.graph_script.specs.Limits.{cycles_limit, file_bytes_limit}
@@ -41,13 +41,13 @@ use Rattle.graph_script.proofs.WordLemmas.{output_called-word}
 use Rattle.graph_script.proofs.FitLemmas.{first_only-saying}
 
 -- the command of a line was read under this name from these arguments
-pub record IsSpelled (names : List (List ℕ)) (kinds : List Kind) (name : Name) (words : List (List ℕ)) (said : Said) : Type 0 where
-  pub name_is : name_of said.command ≡ name
-  pub args : args_of names kinds said.command ≡ words
+pub record IsSpelled (names : List (List ℕ)) (kinds : List Kind) (name : Name) (words : List (List ℕ)) (parsed : ParsedLine) : Type 0 where
+  pub name_is : name_of parsed.command ≡ name
+  pub args : args_of names kinds parsed.command ≡ words
 
 -- what a line says leaves names and kinds that the final ones begin with
-abbrev pub IsFrontAfter : Reading → Said → List (List ℕ) → List Kind → Type 0
-IsFrontAfter reading said names kinds = IsFront (reading_after 0 reading (Some said)) names kinds
+abbrev pub IsFrontAfter : Reading → ParsedLine → List (List ℕ) → List Kind → Type 0
+IsFrontAfter reading parsed names kinds = IsFront (reading_after 0 reading (Some parsed)) names kinds
 
 -- a new node's name is at its number
 new_word : (reading : Reading) (names : List (List ℕ)) (kinds : List Kind) (command : Command) (name : List ℕ) (kind : Kind) (node : ℕ)
@@ -65,13 +65,13 @@ new_word reading names kinds command name kind node e front =
 
 -- a command that makes a node, whose arguments are as they were read
 making-spelled : (reading : Reading) (names : List (List ℕ)) (kinds : List Kind) (command : Command) (name : List ℕ) (kind : Kind)
-    (words : List (List ℕ)) (said : Said) (node : ℕ) (command_name : Name)
-    → new_arg reading name ≡ Ok node → making reading command name kind ≡ Ok said → IsFrontAfter reading said names kinds
+    (words : List (List ℕ)) (parsed : ParsedLine) (node : ℕ) (command_name : Name)
+    → new_arg reading name ≡ Ok node → making reading command name kind ≡ Ok parsed → IsFrontAfter reading parsed names kinds
     → name_of command ≡ command_name → (node_word names node ≡ name → args_of names kinds command ≡ words)
-    → IsSpelled names kinds command_name words said
-making-spelled reading names kinds command name kind words said node command_name new e front name_is args =
-    let room = from_test (nat_lt (length reading.script.names) nodes_limit) (W.TooMany L.Nodes) _ said e in
-    let same : record { command = command; made = Some (record { name = name; kind = kind }) } ≡ said = cc (room.1) in
+    → IsSpelled names kinds command_name words parsed
+making-spelled reading names kinds command name kind words parsed node command_name new e front name_is args =
+    let room = from_test (nat_lt (length reading.script.names) nodes_limit) (W.TooMany L.Nodes) _ parsed e in
+    let same : record { command = command; made = Some (record { name = name; kind = kind }) } ≡ parsed = cc (room.1) in
     let here = subst (λ s. IsFrontAfter reading s names kinds) (sym same) front in
     subst (IsSpelled names kinds command_name words) same (record {
       name_is = name_is;
@@ -79,18 +79,18 @@ making-spelled reading names kinds command name kind words said node command_nam
     })
 
 -- a command that makes no node
-saying-spelled : (names : List (List ℕ)) (kinds : List Kind) (command : Command) (words : List (List ℕ)) (said : Said) (command_name : Name)
-    → saying command ≡ Ok said → name_of command ≡ command_name → args_of names kinds command ≡ words
-    → IsSpelled names kinds command_name words said
-saying-spelled names kinds command words said command_name e name_is args =
-    let same : record { command = command; made = None } ≡ said = cc in
+saying-spelled : (names : List (List ℕ)) (kinds : List Kind) (command : Command) (words : List (List ℕ)) (parsed : ParsedLine) (command_name : Name)
+    → saying command ≡ Ok parsed → name_of command ≡ command_name → args_of names kinds command ≡ words
+    → IsSpelled names kinds command_name words parsed
+saying-spelled names kinds command words parsed command_name e name_is args =
+    let same : record { command = command; made = None } ≡ parsed = cc in
     subst (IsSpelled names kinds command_name words) same (record { name_is = name_is; args = args })
 
 -- a line that makes no node leaves the names and kinds as they were
-saying-front : (reading : Reading) (names : List (List ℕ)) (kinds : List Kind) (command : Command) (said : Said)
-    → saying command ≡ Ok said → IsFrontAfter reading said names kinds → IsFront reading names kinds
-saying-front reading names kinds command said e front =
-    let same : record { command = command; made = None } ≡ said = cc in
+saying-front : (reading : Reading) (names : List (List ℕ)) (kinds : List Kind) (command : Command) (parsed : ParsedLine)
+    → saying command ≡ Ok parsed → IsFrontAfter reading parsed names kinds → IsFront reading names kinds
+saying-front reading names kinds command parsed e front =
+    let same : record { command = command; made = None } ≡ parsed = cc in
     let here = subst (λ s. IsFrontAfter reading s names kinds) (sym same) front in
     record {
       more_names = here.more_names;
@@ -100,79 +100,79 @@ saying-front reading names kinds command said e front =
       named = ap length (sym (append-nil reading.kinds)) ∙ here.named ∙ ap length (append-nil reading.script.names);
     }
 
-making_epoch-saying : (reading : Reading) (command : Command) (said : Said) → making_epoch reading command ≡ Ok said
-    → saying command ≡ Ok said
-making_epoch-saying reading command said e =
-    (from_test (nat_lt (epochs_so_far reading) epochs_limit) (W.TooMany L.Epochs) (saying command) said e).1
+making_epoch-saying : (reading : Reading) (command : Command) (parsed : ParsedLine) → making_epoch reading command ≡ Ok parsed
+    → saying command ≡ Ok parsed
+making_epoch-saying reading command parsed e =
+    (from_test (nat_lt (epochs_so_far reading) epochs_limit) (W.TooMany L.Epochs) (saying command) parsed e).1
 
 from_file : (word file : List ℕ) → file_arg word ≡ Ok file → file ≡ word
 from_file word file e =
     let good = from_test (nat_le (length word) file_bytes_limit) W.NameForm (Ok word) file e in cc (good.1)
 
 -- each command that makes a node
-square-spelled : (reading : Reading) (names : List (List ℕ)) (kinds : List Kind) (words : List (List ℕ)) (said : Said)
-    → nodes.square_of reading words ≡ Ok said → IsFrontAfter reading said names kinds → IsSpelled names kinds N.Square words said
-square-spelled reading names kinds words said e front =
-    let args = from_bind (five_args words) _ said e in
-    let node = from_bind (new_arg reading args.0.0) _ said args.2 in
-    let rate = from_bind (number_arg 1 rate_limit args.0.1) _ said node.2 in
-    let channels = from_bind (number_arg 1 channels_limit args.0.2) _ said rate.2 in
-    let period = from_bind (number_arg 1 period_limit args.0.3) _ said channels.2 in
-    let amp = from_bind (number_arg 0 amp_limit args.0.4) _ said period.2 in
+square-spelled : (reading : Reading) (names : List (List ℕ)) (kinds : List Kind) (words : List (List ℕ)) (parsed : ParsedLine)
+    → nodes.square_of reading words ≡ Ok parsed → IsFrontAfter reading parsed names kinds → IsSpelled names kinds N.Square words parsed
+square-spelled reading names kinds words parsed e front =
+    let args = from_bind (five_args words) _ parsed e in
+    let node = from_bind (new_arg reading args.0.0) _ parsed args.2 in
+    let rate = from_bind (number_arg 1 rate_limit args.0.1) _ parsed node.2 in
+    let channels = from_bind (number_arg 1 channels_limit args.0.2) _ parsed rate.2 in
+    let period = from_bind (number_arg 1 period_limit args.0.3) _ parsed channels.2 in
+    let amp = from_bind (number_arg 0 amp_limit args.0.4) _ parsed period.2 in
     let one = decimal-number_arg 1 rate_limit rate.0 args.0.1 (omega arith) rate.1 in
     let two = decimal-number_arg 1 channels_limit channels.0 args.0.2 (omega arith) channels.1 in
     let three = decimal-number_arg 1 period_limit period.0 args.0.3 (omega arith) period.1 in
     let four = decimal-number_arg 0 amp_limit amp.0 args.0.4 (omega arith) amp.1 in
     making-spelled reading names kinds (C.Square node.0 rate.0 channels.0 period.0 (pos amp.0)) args.0.0
-    (K.Square rate.0 channels.0 period.0 (pos amp.0)) words said node.0 N.Square node.1 amp.2 front refl
+    (K.Square rate.0 channels.0 period.0 (pos amp.0)) words parsed node.0 N.Square node.1 amp.2 front refl
     (λ named. (λ i. named i ∷ one i ∷ two i ∷ three i ∷ four i ∷ []) ∙ sym (five_args-words words args.0 args.1))
 
-gain-spelled : (reading : Reading) (names : List (List ℕ)) (kinds : List Kind) (words : List (List ℕ)) (said : Said)
-    → nodes.gain_of reading words ≡ Ok said → IsFrontAfter reading said names kinds → IsSpelled names kinds N.Gain words said
-gain-spelled reading names kinds words said e front =
-    let args = from_bind (two_args words) _ said e in
-    let node = from_bind (new_arg reading args.0.0) _ said args.2 in
-    let g = from_bind (integer_arg gain_limit args.0.1) _ said node.2 in
+gain-spelled : (reading : Reading) (names : List (List ℕ)) (kinds : List Kind) (words : List (List ℕ)) (parsed : ParsedLine)
+    → nodes.gain_of reading words ≡ Ok parsed → IsFrontAfter reading parsed names kinds → IsSpelled names kinds N.Gain words parsed
+gain-spelled reading names kinds words parsed e front =
+    let args = from_bind (two_args words) _ parsed e in
+    let node = from_bind (new_arg reading args.0.0) _ parsed args.2 in
+    let g = from_bind (integer_arg gain_limit args.0.1) _ parsed node.2 in
     let one = decimal-integer_arg gain_limit g.0 args.0.1 (omega arith) g.1 in
-    making-spelled reading names kinds (C.Gain node.0 g.0) args.0.0 (K.Gain g.0) words said node.0 N.Gain node.1 g.2 front refl
+    making-spelled reading names kinds (C.Gain node.0 g.0) args.0.0 (K.Gain g.0) words parsed node.0 N.Gain node.1 g.2 front refl
     (λ named. (λ i. named i ∷ one i ∷ []) ∙ sym (two_args-words words args.0 args.1))
 
-mix2-spelled : (reading : Reading) (names : List (List ℕ)) (kinds : List Kind) (words : List (List ℕ)) (said : Said)
-    → nodes.mix2_of reading words ≡ Ok said → IsFrontAfter reading said names kinds → IsSpelled names kinds N.Mix2 words said
-mix2-spelled reading names kinds words said e front =
-    let args = from_bind (three_args words) _ said e in
-    let node = from_bind (new_arg reading args.0.0) _ said args.2 in
-    let ga = from_bind (integer_arg gain_limit args.0.1) _ said node.2 in
-    let gb = from_bind (integer_arg gain_limit args.0.2) _ said ga.2 in
+mix2-spelled : (reading : Reading) (names : List (List ℕ)) (kinds : List Kind) (words : List (List ℕ)) (parsed : ParsedLine)
+    → nodes.mix2_of reading words ≡ Ok parsed → IsFrontAfter reading parsed names kinds → IsSpelled names kinds N.Mix2 words parsed
+mix2-spelled reading names kinds words parsed e front =
+    let args = from_bind (three_args words) _ parsed e in
+    let node = from_bind (new_arg reading args.0.0) _ parsed args.2 in
+    let ga = from_bind (integer_arg gain_limit args.0.1) _ parsed node.2 in
+    let gb = from_bind (integer_arg gain_limit args.0.2) _ parsed ga.2 in
     let one = decimal-integer_arg gain_limit ga.0 args.0.1 (omega arith) ga.1 in
     let two = decimal-integer_arg gain_limit gb.0 args.0.2 (omega arith) gb.1 in
-    making-spelled reading names kinds (C.Mix2 node.0 ga.0 gb.0) args.0.0 (K.Mix2 ga.0 gb.0) words said node.0 N.Mix2 node.1 gb.2 front
+    making-spelled reading names kinds (C.Mix2 node.0 ga.0 gb.0) args.0.0 (K.Mix2 ga.0 gb.0) words parsed node.0 N.Mix2 node.1 gb.2 front
     refl (λ named. (λ i. named i ∷ one i ∷ two i ∷ []) ∙ sym (three_args-words words args.0 args.1))
 
-delay-spelled : (reading : Reading) (names : List (List ℕ)) (kinds : List Kind) (words : List (List ℕ)) (said : Said)
-    → nodes.delay_of reading words ≡ Ok said → IsFrontAfter reading said names kinds → IsSpelled names kinds N.Delay words said
-delay-spelled reading names kinds words said e front =
-    let args = from_bind (two_args words) _ said e in
-    let node = from_bind (new_arg reading args.0.0) _ said args.2 in
-    let frames = from_bind (number_arg 0 delay_limit args.0.1) _ said node.2 in
+delay-spelled : (reading : Reading) (names : List (List ℕ)) (kinds : List Kind) (words : List (List ℕ)) (parsed : ParsedLine)
+    → nodes.delay_of reading words ≡ Ok parsed → IsFrontAfter reading parsed names kinds → IsSpelled names kinds N.Delay words parsed
+delay-spelled reading names kinds words parsed e front =
+    let args = from_bind (two_args words) _ parsed e in
+    let node = from_bind (new_arg reading args.0.0) _ parsed args.2 in
+    let frames = from_bind (number_arg 0 delay_limit args.0.1) _ parsed node.2 in
     let one = decimal-number_arg 0 delay_limit frames.0 args.0.1 (omega arith) frames.1 in
-    making-spelled reading names kinds (C.Delay node.0 frames.0) args.0.0 (K.Delay frames.0) words said node.0 N.Delay node.1 frames.2
+    making-spelled reading names kinds (C.Delay node.0 frames.0) args.0.0 (K.Delay frames.0) words parsed node.0 N.Delay node.1 frames.2
     front refl (λ named. (λ i. named i ∷ one i ∷ []) ∙ sym (two_args-words words args.0 args.1))
 
-split-spelled : (reading : Reading) (names : List (List ℕ)) (kinds : List Kind) (words : List (List ℕ)) (said : Said)
-    → nodes.split_of reading words ≡ Ok said → IsFrontAfter reading said names kinds → IsSpelled names kinds N.Split words said
-split-spelled reading names kinds words said e front =
-    let name = from_bind (one_arg words) _ said e in
-    let node = from_bind (new_arg reading name.0) _ said name.2 in
-    making-spelled reading names kinds (C.Split node.0) name.0 K.Split words said node.0 N.Split node.1 node.2 front refl
+split-spelled : (reading : Reading) (names : List (List ℕ)) (kinds : List Kind) (words : List (List ℕ)) (parsed : ParsedLine)
+    → nodes.split_of reading words ≡ Ok parsed → IsFrontAfter reading parsed names kinds → IsSpelled names kinds N.Split words parsed
+split-spelled reading names kinds words parsed e front =
+    let name = from_bind (one_arg words) _ parsed e in
+    let node = from_bind (new_arg reading name.0) _ parsed name.2 in
+    making-spelled reading names kinds (C.Split node.0) name.0 K.Split words parsed node.0 N.Split node.1 node.2 front refl
     (λ named. (λ i. named i ∷ []) ∙ sym (one_arg-words words name.0 name.1))
 
-meter-spelled : (reading : Reading) (names : List (List ℕ)) (kinds : List Kind) (words : List (List ℕ)) (said : Said)
-    → nodes.meter_of reading words ≡ Ok said → IsFrontAfter reading said names kinds → IsSpelled names kinds N.Meter words said
-meter-spelled reading names kinds words said e front =
-    let name = from_bind (one_arg words) _ said e in
-    let node = from_bind (new_arg reading name.0) _ said name.2 in
-    making-spelled reading names kinds (C.Meter node.0) name.0 K.Meter words said node.0 N.Meter node.1 node.2 front refl
+meter-spelled : (reading : Reading) (names : List (List ℕ)) (kinds : List Kind) (words : List (List ℕ)) (parsed : ParsedLine)
+    → nodes.meter_of reading words ≡ Ok parsed → IsFrontAfter reading parsed names kinds → IsSpelled names kinds N.Meter words parsed
+meter-spelled reading names kinds words parsed e front =
+    let name = from_bind (one_arg words) _ parsed e in
+    let node = from_bind (new_arg reading name.0) _ parsed name.2 in
+    making-spelled reading names kinds (C.Meter node.0) name.0 K.Meter words parsed node.0 N.Meter node.1 node.2 front refl
     (λ named. (λ i. named i ∷ []) ∙ sym (one_arg-words words name.0 name.1))
 
 -- a new node with a file
@@ -192,20 +192,20 @@ node_and_file-IsFiled reading words new e =
       words_are = two_args-words words args.0 args.1 ∙ ap (λ f. args.0.0 ∷ f ∷ []) (sym (from_file args.0.1 file.0 file.1));
     })
 
-source-spelled : (reading : Reading) (names : List (List ℕ)) (kinds : List Kind) (words : List (List ℕ)) (said : Said)
-    → files.source_of reading words ≡ Ok said → IsFrontAfter reading said names kinds → IsSpelled names kinds N.Source words said
-source-spelled reading names kinds words said e front =
-    let new = from_bind (files.node_and_file reading words) _ said e in
+source-spelled : (reading : Reading) (names : List (List ℕ)) (kinds : List Kind) (words : List (List ℕ)) (parsed : ParsedLine)
+    → files.source_of reading words ≡ Ok parsed → IsFrontAfter reading parsed names kinds → IsSpelled names kinds N.Source words parsed
+source-spelled reading names kinds words parsed e front =
+    let new = from_bind (files.node_and_file reading words) _ parsed e in
     let filed = node_and_file-IsFiled reading words new.0 new.1 in
-    making-spelled reading names kinds (C.Source new.0.0 new.0.2) new.0.1 K.Source words said new.0.0 N.Source filed.node new.2 front refl
+    making-spelled reading names kinds (C.Source new.0.0 new.0.2) new.0.1 K.Source words parsed new.0.0 N.Source filed.node new.2 front refl
     (λ named. (λ i. named i ∷ new.0.2 ∷ []) ∙ sym filed.words_are)
 
-sink-spelled : (reading : Reading) (names : List (List ℕ)) (kinds : List Kind) (words : List (List ℕ)) (said : Said)
-    → files.sink_of reading words ≡ Ok said → IsFrontAfter reading said names kinds → IsSpelled names kinds N.Sink words said
-sink-spelled reading names kinds words said e front =
-    let new = from_bind (files.node_and_file reading words) _ said e in
+sink-spelled : (reading : Reading) (names : List (List ℕ)) (kinds : List Kind) (words : List (List ℕ)) (parsed : ParsedLine)
+    → files.sink_of reading words ≡ Ok parsed → IsFrontAfter reading parsed names kinds → IsSpelled names kinds N.Sink words parsed
+sink-spelled reading names kinds words parsed e front =
+    let new = from_bind (files.node_and_file reading words) _ parsed e in
     let filed = node_and_file-IsFiled reading words new.0 new.1 in
-    making-spelled reading names kinds (C.Sink new.0.0 new.0.2) new.0.1 K.Sink words said new.0.0 N.Sink filed.node new.2 front refl
+    making-spelled reading names kinds (C.Sink new.0.0 new.0.2) new.0.1 K.Sink words parsed new.0.0 N.Sink filed.node new.2 front refl
     (λ named. (λ i. named i ∷ new.0.2 ∷ []) ∙ sym filed.words_are)
 
 -- a new map
@@ -228,45 +228,45 @@ node_and_channels-IsMapped reading words new e =
       words_are = three_args-words words args.0 args.1 ∙ ap (λ w. args.0.0 ∷ w ∷ args.0.2 ∷ []) (sym one);
     })
 
-map-spelled : (reading : Reading) (names : List (List ℕ)) (kinds : List Kind) (words : List (List ℕ)) (said : Said)
-    → nodes.map_of reading words ≡ Ok said → IsFrontAfter reading said names kinds → IsSpelled names kinds N.Map words said
-map-spelled reading names kinds words said e front =
-    let new = from_bind (nodes.node_and_channels reading words) _ said e in
+map-spelled : (reading : Reading) (names : List (List ℕ)) (kinds : List Kind) (words : List (List ℕ)) (parsed : ParsedLine)
+    → nodes.map_of reading words ≡ Ok parsed → IsFrontAfter reading parsed names kinds → IsSpelled names kinds N.Map words parsed
+map-spelled reading names kinds words parsed e front =
+    let new = from_bind (nodes.node_and_channels reading words) _ parsed e in
     let mapped = node_and_channels-IsMapped reading words new.0 new.1 in
-    let list = from_bind (list_arg new.0.2 new.0.3) _ said new.2 in
+    let list = from_bind (list_arg new.0.2 new.0.3) _ parsed new.2 in
     let few = mapped.few in
     let one = list_word-list_arg new.0.2 list.0 new.0.3 (omega arith) list.1 in
-    making-spelled reading names kinds (C.Map new.0.0 new.0.2 list.0) new.0.1 (K.Map new.0.2 list.0) words said new.0.0 N.Map
+    making-spelled reading names kinds (C.Map new.0.0 new.0.2 list.0) new.0.1 (K.Map new.0.2 list.0) words parsed new.0.0 N.Map
     mapped.node list.2 front refl (λ named. (λ i. named i ∷ decimal new.0.2 ∷ one i ∷ []) ∙ sym mapped.words_are)
 
 -- each command for a port or a link
-offer-spelled : (reading : Reading) (names : List (List ℕ)) (kinds : List Kind) (words : List (List ℕ)) (said : Said)
-    → ports.offer_of reading words ≡ Ok said → IsFrontAfter reading said names kinds → IsSpelled names kinds N.Offer words said
-offer-spelled reading names kinds words said e front =
-    let offer = from_bind (ports.port_and_file reading words) _ said e in
+offer-spelled : (reading : Reading) (names : List (List ℕ)) (kinds : List Kind) (words : List (List ℕ)) (parsed : ParsedLine)
+    → ports.offer_of reading words ≡ Ok parsed → IsFrontAfter reading parsed names kinds → IsSpelled names kinds N.Offer words parsed
+offer-spelled reading names kinds words parsed e front =
+    let offer = from_bind (ports.port_and_file reading words) _ parsed e in
     let args = from_bind (three_args words) _ offer.0 offer.1 in
     let port = from_bind (port_arg reading args.0.0 args.0.1) _ offer.0 args.2 in
     let file = from_bind (file_arg args.0.2) _ offer.0 port.2 in
     let late = from_refusal (is_linked reading port.0.node) W.OfferLate _ offer.0 file.2 in
     let same : (port.0, file.0) ≡ offer.0 = cc (late.1) in
-    let here = saying-front reading names kinds (C.Offer offer.0.0 offer.0.1) said offer.2 front in
+    let here = saying-front reading names kinds (C.Offer offer.0.0 offer.0.1) parsed offer.2 front in
     let one = port_arg-words reading names kinds args.0.0 args.0.1 port.0 here port.1 in
     let three = from_file args.0.2 file.0 file.1 in
     let spelled : args_of names kinds (C.Offer port.0 file.0) ≡ words =
     (λ i. one.0 i ∷ one.1 i ∷ three i ∷ []) ∙ sym (three_args-words words args.0 args.1) in
-    saying-spelled names kinds (C.Offer offer.0.0 offer.0.1) words said N.Offer offer.2 refl
+    saying-spelled names kinds (C.Offer offer.0.0 offer.0.1) words parsed N.Offer offer.2 refl
     (subst (λ (o : PortId × List ℕ). args_of names kinds (C.Offer o.0 o.1) ≡ words) same spelled)
 
-buffers-spelled : (reading : Reading) (names : List (List ℕ)) (kinds : List Kind) (words : List (List ℕ)) (said : Said)
-    → ports.buffers_of reading words ≡ Ok said → IsFrontAfter reading said names kinds → IsSpelled names kinds N.Buffers words said
-buffers-spelled reading names kinds words said e front =
-    let args = from_bind (three_args words) _ said e in
-    let port = from_bind (port_arg reading args.0.0 args.0.1) _ said args.2 in
-    let n = from_bind (number_arg 1 buffers_limit args.0.2) _ said port.2 in
-    let here = saying-front reading names kinds (C.Buffers port.0 n.0) said n.2 front in
+buffers-spelled : (reading : Reading) (names : List (List ℕ)) (kinds : List Kind) (words : List (List ℕ)) (parsed : ParsedLine)
+    → ports.buffers_of reading words ≡ Ok parsed → IsFrontAfter reading parsed names kinds → IsSpelled names kinds N.Buffers words parsed
+buffers-spelled reading names kinds words parsed e front =
+    let args = from_bind (three_args words) _ parsed e in
+    let port = from_bind (port_arg reading args.0.0 args.0.1) _ parsed args.2 in
+    let n = from_bind (number_arg 1 buffers_limit args.0.2) _ parsed port.2 in
+    let here = saying-front reading names kinds (C.Buffers port.0 n.0) parsed n.2 front in
     let one = port_arg-words reading names kinds args.0.0 args.0.1 port.0 here port.1 in
     let three = decimal-number_arg 1 buffers_limit n.0 args.0.2 (omega arith) n.1 in
-    saying-spelled names kinds (C.Buffers port.0 n.0) words said N.Buffers n.2 refl
+    saying-spelled names kinds (C.Buffers port.0 n.0) words parsed N.Buffers n.2 refl
     ((λ i. one.0 i ∷ one.1 i ∷ three i ∷ []) ∙ sym (three_args-words words args.0 args.1))
 
 ends_of-words : (reading : Reading) (names : List (List ℕ)) (kinds : List Kind) (words : List (List ℕ)) (ends : PortId × PortId)
@@ -282,55 +282,55 @@ ends_of-words reading names kinds words ends here e =
     subst (λ (p : PortId × PortId). endpoint_word names kinds p.0 ∷ endpoint_word names kinds p.1 ∷ [] ≡ words) same
     ((λ i. one i ∷ two i ∷ []) ∙ sym (two_args-words words args.0 args.1))
 
-link-spelled : (reading : Reading) (names : List (List ℕ)) (kinds : List Kind) (words : List (List ℕ)) (said : Said)
-    → ports.link_of reading words ≡ Ok said → IsFrontAfter reading said names kinds → IsSpelled names kinds N.Link words said
-link-spelled reading names kinds words said e front =
-    let ends = from_bind (ports.ends_of reading words) _ said e in
-    let here = saying-front reading names kinds (C.Link ends.0.0 ends.0.1) said ends.2 front in
-    saying-spelled names kinds (C.Link ends.0.0 ends.0.1) words said N.Link ends.2 refl
+link-spelled : (reading : Reading) (names : List (List ℕ)) (kinds : List Kind) (words : List (List ℕ)) (parsed : ParsedLine)
+    → ports.link_of reading words ≡ Ok parsed → IsFrontAfter reading parsed names kinds → IsSpelled names kinds N.Link words parsed
+link-spelled reading names kinds words parsed e front =
+    let ends = from_bind (ports.ends_of reading words) _ parsed e in
+    let here = saying-front reading names kinds (C.Link ends.0.0 ends.0.1) parsed ends.2 front in
+    saying-spelled names kinds (C.Link ends.0.0 ends.0.1) words parsed N.Link ends.2 refl
     (ends_of-words reading names kinds words ends.0 here ends.1)
 
-unlink-spelled : (reading : Reading) (names : List (List ℕ)) (kinds : List Kind) (words : List (List ℕ)) (said : Said)
-    → ports.unlink_of reading words ≡ Ok said → IsFrontAfter reading said names kinds → IsSpelled names kinds N.Unlink words said
-unlink-spelled reading names kinds words said e front =
-    let ends = from_bind (ports.ends_of reading words) _ said e in
-    let here = saying-front reading names kinds (C.Unlink ends.0.0 ends.0.1) said ends.2 front in
-    saying-spelled names kinds (C.Unlink ends.0.0 ends.0.1) words said N.Unlink ends.2 refl
+unlink-spelled : (reading : Reading) (names : List (List ℕ)) (kinds : List Kind) (words : List (List ℕ)) (parsed : ParsedLine)
+    → ports.unlink_of reading words ≡ Ok parsed → IsFrontAfter reading parsed names kinds → IsSpelled names kinds N.Unlink words parsed
+unlink-spelled reading names kinds words parsed e front =
+    let ends = from_bind (ports.ends_of reading words) _ parsed e in
+    let here = saying-front reading names kinds (C.Unlink ends.0.0 ends.0.1) parsed ends.2 front in
+    saying-spelled names kinds (C.Unlink ends.0.0 ends.0.1) words parsed N.Unlink ends.2 refl
     (ends_of-words reading names kinds words ends.0 here ends.1)
 
 -- each other command
-quantum-spelled : (reading : Reading) (names : List (List ℕ)) (kinds : List Kind) (words : List (List ℕ)) (said : Said)
-    → graph.quantum_of reading words ≡ Ok said → IsFrontAfter reading said names kinds → IsSpelled names kinds N.Quantum words said
-quantum-spelled reading names kinds words said e front =
-    let word = from_bind (one_arg words) _ said e in
-    let n = from_bind (number_arg 1 quantum_limit word.0) _ said word.2 in
+quantum-spelled : (reading : Reading) (names : List (List ℕ)) (kinds : List Kind) (words : List (List ℕ)) (parsed : ParsedLine)
+    → graph.quantum_of reading words ≡ Ok parsed → IsFrontAfter reading parsed names kinds → IsSpelled names kinds N.Quantum words parsed
+quantum-spelled reading names kinds words parsed e front =
+    let word = from_bind (one_arg words) _ parsed e in
+    let n = from_bind (number_arg 1 quantum_limit word.0) _ parsed word.2 in
     let one = decimal-number_arg 1 quantum_limit n.0 word.0 (omega arith) n.1 in
-    saying-spelled names kinds (C.Quantum n.0) words said N.Quantum (first_only-saying reading.script.lines (C.Quantum n.0) said n.2) refl
+    saying-spelled names kinds (C.Quantum n.0) words parsed N.Quantum (first_only-saying reading.script.lines (C.Quantum n.0) parsed n.2) refl
     ((λ i. one i ∷ []) ∙ sym (one_arg-words words word.0 word.1))
 
-driver-spelled : (reading : Reading) (names : List (List ℕ)) (kinds : List Kind) (words : List (List ℕ)) (said : Said)
-    → graph.driver_of reading words ≡ Ok said → IsFrontAfter reading said names kinds → IsSpelled names kinds N.Driver words said
-driver-spelled reading names kinds words said e front =
-    let args = from_bind (two_args words) _ said e in
-    let node = from_bind (node_arg reading args.0.0) _ said args.2 in
-    let priority = from_bind (number_arg 0 priority_limit args.0.1) _ said node.2 in
-    let may = from_test (may_drive (kind_at reading node.0)) W.NotDriverKind (saying (C.Driver node.0 priority.0)) said priority.2 in
-    let here = saying-front reading names kinds (C.Driver node.0 priority.0) said may.1 front in
+driver-spelled : (reading : Reading) (names : List (List ℕ)) (kinds : List Kind) (words : List (List ℕ)) (parsed : ParsedLine)
+    → graph.driver_of reading words ≡ Ok parsed → IsFrontAfter reading parsed names kinds → IsSpelled names kinds N.Driver words parsed
+driver-spelled reading names kinds words parsed e front =
+    let args = from_bind (two_args words) _ parsed e in
+    let node = from_bind (node_arg reading args.0.0) _ parsed args.2 in
+    let priority = from_bind (number_arg 0 priority_limit args.0.1) _ parsed node.2 in
+    let may = from_test (may_drive (kind_at reading node.0)) W.NotDriverKind (saying (C.Driver node.0 priority.0)) parsed priority.2 in
+    let here = saying-front reading names kinds (C.Driver node.0 priority.0) parsed may.1 front in
     let one = node_arg-word reading names kinds args.0.0 node.0 here node.1 in
     let two = decimal-number_arg 0 priority_limit priority.0 args.0.1 (omega arith) priority.1 in
-    saying-spelled names kinds (C.Driver node.0 priority.0) words said N.Driver may.1 refl
+    saying-spelled names kinds (C.Driver node.0 priority.0) words parsed N.Driver may.1 refl
     ((λ i. one.word_is i ∷ two i ∷ []) ∙ sym (two_args-words words args.0 args.1))
 
-loop-spelled : (reading : Reading) (names : List (List ℕ)) (kinds : List Kind) (words : List (List ℕ)) (said : Said)
-    → graph.loop_of reading words ≡ Ok said → IsFrontAfter reading said names kinds → IsSpelled names kinds N.Loop words said
-loop-spelled reading names kinds words said e front =
-    let args = from_bind (two_args words) _ said e in
-    let node = from_bind (node_arg reading args.0.0) _ said args.2 in
-    let k = from_bind (number_arg 0 loop_limit args.0.1) _ said node.2 in
-    let here = saying-front reading names kinds (C.Loop node.0 k.0) said k.2 front in
+loop-spelled : (reading : Reading) (names : List (List ℕ)) (kinds : List Kind) (words : List (List ℕ)) (parsed : ParsedLine)
+    → graph.loop_of reading words ≡ Ok parsed → IsFrontAfter reading parsed names kinds → IsSpelled names kinds N.Loop words parsed
+loop-spelled reading names kinds words parsed e front =
+    let args = from_bind (two_args words) _ parsed e in
+    let node = from_bind (node_arg reading args.0.0) _ parsed args.2 in
+    let k = from_bind (number_arg 0 loop_limit args.0.1) _ parsed node.2 in
+    let here = saying-front reading names kinds (C.Loop node.0 k.0) parsed k.2 front in
     let one = node_arg-word reading names kinds args.0.0 node.0 here node.1 in
     let two = decimal-number_arg 0 loop_limit k.0 args.0.1 (omega arith) k.1 in
-    saying-spelled names kinds (C.Loop node.0 k.0) words said N.Loop k.2 refl
+    saying-spelled names kinds (C.Loop node.0 k.0) words parsed N.Loop k.2 refl
     ((λ i. one.word_is i ∷ two i ∷ []) ∙ sym (two_args-words words args.0 args.1))
 
 node_of-word : (reading : Reading) (names : List (List ℕ)) (kinds : List Kind) (words : List (List ℕ)) (node : ℕ)
@@ -340,69 +340,69 @@ node_of-word reading names kinds words node here e =
     let one = node_arg-word reading names kinds name.0 node here name.2 in
     ap (λ w. w ∷ []) one.word_is ∙ sym (one_arg-words words name.0 name.1)
 
-on-spelled : (reading : Reading) (names : List (List ℕ)) (kinds : List Kind) (words : List (List ℕ)) (said : Said)
-    → graph.on_of reading words ≡ Ok said → IsFrontAfter reading said names kinds → IsSpelled names kinds N.On words said
-on-spelled reading names kinds words said e front =
-    let node = from_bind (graph.node_of reading words) _ said e in
-    let here = saying-front reading names kinds (C.On node.0) said node.2 front in
-    saying-spelled names kinds (C.On node.0) words said N.On node.2 refl (node_of-word reading names kinds words node.0 here node.1)
+on-spelled : (reading : Reading) (names : List (List ℕ)) (kinds : List Kind) (words : List (List ℕ)) (parsed : ParsedLine)
+    → graph.on_of reading words ≡ Ok parsed → IsFrontAfter reading parsed names kinds → IsSpelled names kinds N.On words parsed
+on-spelled reading names kinds words parsed e front =
+    let node = from_bind (graph.node_of reading words) _ parsed e in
+    let here = saying-front reading names kinds (C.On node.0) parsed node.2 front in
+    saying-spelled names kinds (C.On node.0) words parsed N.On node.2 refl (node_of-word reading names kinds words node.0 here node.1)
 
-off-spelled : (reading : Reading) (names : List (List ℕ)) (kinds : List Kind) (words : List (List ℕ)) (said : Said)
-    → graph.off_of reading words ≡ Ok said → IsFrontAfter reading said names kinds → IsSpelled names kinds N.Off words said
-off-spelled reading names kinds words said e front =
-    let node = from_bind (graph.node_of reading words) _ said e in
-    let here = saying-front reading names kinds (C.Off node.0) said node.2 front in
-    saying-spelled names kinds (C.Off node.0) words said N.Off node.2 refl (node_of-word reading names kinds words node.0 here node.1)
+off-spelled : (reading : Reading) (names : List (List ℕ)) (kinds : List Kind) (words : List (List ℕ)) (parsed : ParsedLine)
+    → graph.off_of reading words ≡ Ok parsed → IsFrontAfter reading parsed names kinds → IsSpelled names kinds N.Off words parsed
+off-spelled reading names kinds words parsed e front =
+    let node = from_bind (graph.node_of reading words) _ parsed e in
+    let here = saying-front reading names kinds (C.Off node.0) parsed node.2 front in
+    saying-spelled names kinds (C.Off node.0) words parsed N.Off node.2 refl (node_of-word reading names kinds words node.0 here node.1)
 
-async-spelled : (reading : Reading) (names : List (List ℕ)) (kinds : List Kind) (words : List (List ℕ)) (said : Said)
-    → graph.async_of reading words ≡ Ok said → IsFrontAfter reading said names kinds → IsSpelled names kinds N.Async words said
-async-spelled reading names kinds words said e front =
-    let node = from_bind (graph.node_of reading words) _ said e in
-    let late = from_refusal (is_linked reading node.0) W.AsyncLate (saying (C.Async node.0)) said node.2 in
-    let here = saying-front reading names kinds (C.Async node.0) said late.1 front in
-    saying-spelled names kinds (C.Async node.0) words said N.Async late.1 refl (node_of-word reading names kinds words node.0 here node.1)
+async-spelled : (reading : Reading) (names : List (List ℕ)) (kinds : List Kind) (words : List (List ℕ)) (parsed : ParsedLine)
+    → graph.async_of reading words ≡ Ok parsed → IsFrontAfter reading parsed names kinds → IsSpelled names kinds N.Async words parsed
+async-spelled reading names kinds words parsed e front =
+    let node = from_bind (graph.node_of reading words) _ parsed e in
+    let late = from_refusal (is_linked reading node.0) W.AsyncLate (saying (C.Async node.0)) parsed node.2 in
+    let here = saying-front reading names kinds (C.Async node.0) parsed late.1 front in
+    saying-spelled names kinds (C.Async node.0) words parsed N.Async late.1 refl (node_of-word reading names kinds words node.0 here node.1)
 
-cycles-spelled : (reading : Reading) (names : List (List ℕ)) (kinds : List Kind) (words : List (List ℕ)) (said : Said)
-    → graph.cycles_of reading words ≡ Ok said → IsFrontAfter reading said names kinds → IsSpelled names kinds N.Cycles words said
-cycles-spelled reading names kinds words said e front =
-    let word = from_bind (one_arg words) _ said e in
-    let n = from_bind (number_arg 1 cycles_limit word.0) _ said word.2 in
+cycles-spelled : (reading : Reading) (names : List (List ℕ)) (kinds : List Kind) (words : List (List ℕ)) (parsed : ParsedLine)
+    → graph.cycles_of reading words ≡ Ok parsed → IsFrontAfter reading parsed names kinds → IsSpelled names kinds N.Cycles words parsed
+cycles-spelled reading names kinds words parsed e front =
+    let word = from_bind (one_arg words) _ parsed e in
+    let n = from_bind (number_arg 1 cycles_limit word.0) _ parsed word.2 in
     let one = decimal-number_arg 1 cycles_limit n.0 word.0 (omega arith) n.1 in
-    saying-spelled names kinds (C.Cycles n.0) words said N.Cycles (making_epoch-saying reading (C.Cycles n.0) said n.2) refl
+    saying-spelled names kinds (C.Cycles n.0) words parsed N.Cycles (making_epoch-saying reading (C.Cycles n.0) parsed n.2) refl
     ((λ i. one i ∷ []) ∙ sym (one_arg-words words word.0 word.1))
 
-drain-spelled : (reading : Reading) (names : List (List ℕ)) (kinds : List Kind) (words : List (List ℕ)) (said : Said)
-    → graph.drain_of reading words ≡ Ok said → IsFrontAfter reading said names kinds → IsSpelled names kinds N.Drain words said
-drain-spelled reading names kinds words said e front =
-    let none = from_bind (no_args words) _ said e in
-    saying-spelled names kinds C.Drain words said N.Drain (making_epoch-saying reading C.Drain said none.2) refl
+drain-spelled : (reading : Reading) (names : List (List ℕ)) (kinds : List Kind) (words : List (List ℕ)) (parsed : ParsedLine)
+    → graph.drain_of reading words ≡ Ok parsed → IsFrontAfter reading parsed names kinds → IsSpelled names kinds N.Drain words parsed
+drain-spelled reading names kinds words parsed e front =
+    let none = from_bind (no_args words) _ parsed e in
+    saying-spelled names kinds C.Drain words parsed N.Drain (making_epoch-saying reading C.Drain parsed none.2) refl
     (sym (no_args-words words none.0 none.1))
 
 meaning_of_command-spelled : (reading : Reading) (names : List (List ℕ)) (kinds : List Kind) (name : Name) (words : List (List ℕ))
-    (said : Said) → meaning_of_command reading name words ≡ Ok said → IsFrontAfter reading said names kinds
-    → IsSpelled names kinds name words said
+    (parsed : ParsedLine) → meaning_of_command reading name words ≡ Ok parsed → IsFrontAfter reading parsed names kinds
+    → IsSpelled names kinds name words parsed
 unfolding meaning_of_command
-meaning_of_command-spelled reading names kinds N.Quantum words said e front = quantum-spelled reading names kinds words said e front
-meaning_of_command-spelled reading names kinds N.Source words said e front = source-spelled reading names kinds words said e front
-meaning_of_command-spelled reading names kinds N.Square words said e front = square-spelled reading names kinds words said e front
-meaning_of_command-spelled reading names kinds N.Gain words said e front = gain-spelled reading names kinds words said e front
-meaning_of_command-spelled reading names kinds N.Mix2 words said e front = mix2-spelled reading names kinds words said e front
-meaning_of_command-spelled reading names kinds N.Delay words said e front = delay-spelled reading names kinds words said e front
-meaning_of_command-spelled reading names kinds N.Map words said e front = map-spelled reading names kinds words said e front
-meaning_of_command-spelled reading names kinds N.Split words said e front = split-spelled reading names kinds words said e front
-meaning_of_command-spelled reading names kinds N.Sink words said e front = sink-spelled reading names kinds words said e front
-meaning_of_command-spelled reading names kinds N.Meter words said e front = meter-spelled reading names kinds words said e front
-meaning_of_command-spelled reading names kinds N.Driver words said e front = driver-spelled reading names kinds words said e front
-meaning_of_command-spelled reading names kinds N.Loop words said e front = loop-spelled reading names kinds words said e front
-meaning_of_command-spelled reading names kinds N.Offer words said e front = offer-spelled reading names kinds words said e front
-meaning_of_command-spelled reading names kinds N.Buffers words said e front = buffers-spelled reading names kinds words said e front
-meaning_of_command-spelled reading names kinds N.Link words said e front = link-spelled reading names kinds words said e front
-meaning_of_command-spelled reading names kinds N.Unlink words said e front = unlink-spelled reading names kinds words said e front
-meaning_of_command-spelled reading names kinds N.On words said e front = on-spelled reading names kinds words said e front
-meaning_of_command-spelled reading names kinds N.Off words said e front = off-spelled reading names kinds words said e front
-meaning_of_command-spelled reading names kinds N.Async words said e front = async-spelled reading names kinds words said e front
-meaning_of_command-spelled reading names kinds N.Cycles words said e front = cycles-spelled reading names kinds words said e front
-meaning_of_command-spelled reading names kinds N.Drain words said e front = drain-spelled reading names kinds words said e front
+meaning_of_command-spelled reading names kinds N.Quantum words parsed e front = quantum-spelled reading names kinds words parsed e front
+meaning_of_command-spelled reading names kinds N.Source words parsed e front = source-spelled reading names kinds words parsed e front
+meaning_of_command-spelled reading names kinds N.Square words parsed e front = square-spelled reading names kinds words parsed e front
+meaning_of_command-spelled reading names kinds N.Gain words parsed e front = gain-spelled reading names kinds words parsed e front
+meaning_of_command-spelled reading names kinds N.Mix2 words parsed e front = mix2-spelled reading names kinds words parsed e front
+meaning_of_command-spelled reading names kinds N.Delay words parsed e front = delay-spelled reading names kinds words parsed e front
+meaning_of_command-spelled reading names kinds N.Map words parsed e front = map-spelled reading names kinds words parsed e front
+meaning_of_command-spelled reading names kinds N.Split words parsed e front = split-spelled reading names kinds words parsed e front
+meaning_of_command-spelled reading names kinds N.Sink words parsed e front = sink-spelled reading names kinds words parsed e front
+meaning_of_command-spelled reading names kinds N.Meter words parsed e front = meter-spelled reading names kinds words parsed e front
+meaning_of_command-spelled reading names kinds N.Driver words parsed e front = driver-spelled reading names kinds words parsed e front
+meaning_of_command-spelled reading names kinds N.Loop words parsed e front = loop-spelled reading names kinds words parsed e front
+meaning_of_command-spelled reading names kinds N.Offer words parsed e front = offer-spelled reading names kinds words parsed e front
+meaning_of_command-spelled reading names kinds N.Buffers words parsed e front = buffers-spelled reading names kinds words parsed e front
+meaning_of_command-spelled reading names kinds N.Link words parsed e front = link-spelled reading names kinds words parsed e front
+meaning_of_command-spelled reading names kinds N.Unlink words parsed e front = unlink-spelled reading names kinds words parsed e front
+meaning_of_command-spelled reading names kinds N.On words parsed e front = on-spelled reading names kinds words parsed e front
+meaning_of_command-spelled reading names kinds N.Off words parsed e front = off-spelled reading names kinds words parsed e front
+meaning_of_command-spelled reading names kinds N.Async words parsed e front = async-spelled reading names kinds words parsed e front
+meaning_of_command-spelled reading names kinds N.Cycles words parsed e front = cycles-spelled reading names kinds words parsed e front
+meaning_of_command-spelled reading names kinds N.Drain words parsed e front = drain-spelled reading names kinds words parsed e front
 
 -- a command's name is its word
 choose : (word : List ℕ) (text : List ℕ) (name found : Name) (more : Option Name) → name_word name ≡ text
@@ -464,12 +464,12 @@ command_called-word word found =
     (graph_command-word word found) (time_command-word word found))
 
 -- THE WORDS of what a line says are those of the line
-pub words_spelled : (reading : Reading) (names : List (List ℕ)) (kinds : List Kind) (words : List (List ℕ)) (said : Said)
-    → meaning_of_words reading words ≡ Ok said → IsFrontAfter reading said names kinds
-    → command_word said.command ∷ args_of names kinds said.command ≡ words
-words_spelled reading names kinds [] said e front = cc
-words_spelled reading names kinds (word ∷ words) said e front =
-    let name = from_bind (ok_or (command_called word) W.Command) _ said e in
-    let spelled = meaning_of_command-spelled reading names kinds name.0 words said name.2 front in
+pub words_spelled : (reading : Reading) (names : List (List ℕ)) (kinds : List Kind) (words : List (List ℕ)) (parsed : ParsedLine)
+    → meaning_of_words reading words ≡ Ok parsed → IsFrontAfter reading parsed names kinds
+    → command_word parsed.command ∷ args_of names kinds parsed.command ≡ words
+words_spelled reading names kinds [] parsed e front = cc
+words_spelled reading names kinds (word ∷ words) parsed e front =
+    let name = from_bind (ok_or (command_called word) W.Command) _ parsed e in
+    let spelled = meaning_of_command-spelled reading names kinds name.0 words parsed name.2 front in
     let first = ap name_word spelled.name_is ∙ command_called-word word name.0 (from_some (command_called word) W.Command name.0 name.1) in
     (λ i. first i ∷ spelled.args i)

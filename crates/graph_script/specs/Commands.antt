@@ -4,7 +4,7 @@ use Rattle.std.specs.Prelude.{ℕ, List, [], ◌∷◌, ok_or, Err}
 use Rattle.graph_script.specs.declared.fault.ScriptWhy.TheVariants as W
 use Rattle.graph_script.specs.declared.name.Name.{Name}
 use Rattle.graph_script.specs.declared.name.Name.TheVariants as N
-use Rattle.graph_script.specs.declared.reading.Said.{Said}
+use Rattle.graph_script.specs.declared.reading.ParsedLine.{ParsedLine}
 use Rattle.graph_script.specs.declared.reading.Reading.{Reading}
 use Rattle.graph_script.specs.Checked.{Checked, ◌>>=◌}
 use Rattle.graph_script.specs.CommandNames.{command_called}
@@ -14,7 +14,7 @@ use Rattle.graph_script.specs.PortCommands as ports
 use Rattle.graph_script.specs.GraphCommands as graph
 
 -- the meaning of a command with these arguments
-unfoldable pub meaning_of_command : Reading → Name → List (List ℕ) → Checked Said
+unfoldable pub meaning_of_command : Reading → Name → List (List ℕ) → Checked ParsedLine
 meaning_of_command reading N.Quantum words = graph.quantum_of reading words
 meaning_of_command reading N.Source words = files.source_of reading words
 meaning_of_command reading N.Square words = nodes.square_of reading words
@@ -38,7 +38,7 @@ meaning_of_command reading N.Cycles words = graph.cycles_of reading words
 meaning_of_command reading N.Drain words = graph.drain_of reading words
 
 -- the meaning of words: the first is the name of a command, the others are its arguments
-abbrev pub meaning_of_words : Reading → List (List ℕ) → Checked Said
+abbrev pub meaning_of_words : Reading → List (List ℕ) → Checked ParsedLine
 meaning_of_words reading [] = Err W.Command
 meaning_of_words reading (name ∷ words) = do
   command ← ok_or (command_called name) W.Command

@@ -8,7 +8,7 @@ use Rattle.pw_graph.specs.declared.kind.Kind.{Kind}
 use Rattle.graph_script.specs.declared.fault.ScriptWhy.TheVariants as W
 use Rattle.graph_script.specs.declared.command.Command.{Command}
 use Rattle.graph_script.specs.declared.command.Command.TheVariants as C
-use Rattle.graph_script.specs.declared.reading.Said.{Said}
+use Rattle.graph_script.specs.declared.reading.ParsedLine.{ParsedLine}
 use Rattle.graph_script.specs.declared.reading.Reading.{Reading}
 use Rattle.graph_script.specs.Limits.{nodes_limit, epochs_limit}
 use Rattle.graph_script.specs.Checked.{Checked}
@@ -32,16 +32,16 @@ abbrev pub epochs_so_far : Reading → ℕ
 epochs_so_far reading = count_by (λ l. is_epoch l.command) reading.script.lines
 
 -- a command that makes neither a node nor an epoch
-abbrev pub saying : Command → Checked Said
+abbrev pub saying : Command → Checked ParsedLine
 saying command = Ok (record { command = command; made = None })
 
 -- one that makes an epoch, where there is room for it
-abbrev pub making_epoch : Reading → Command → Checked Said
+abbrev pub making_epoch : Reading → Command → Checked ParsedLine
 making_epoch reading command =
     if nat_lt (epochs_so_far reading) epochs_limit then saying command else Err (W.TooMany L.Epochs)
 
 -- one that makes a node of this name and kind, where there is room for it
-abbrev pub making : Reading → Command → List ℕ → Kind → Checked Said
+abbrev pub making : Reading → Command → List ℕ → Kind → Checked ParsedLine
 making reading command name kind =
     if nat_lt (length reading.script.names) nodes_limit
     then Ok (record { command = command; made = Some (record { name = name; kind = kind }) })

@@ -3,7 +3,7 @@
 use Rattle.std.specs.Prelude.{ℕ, List, Ok}
 use Rattle.pw_graph.specs.declared.kind.Kind.TheVariants as K
 use Rattle.graph_script.specs.declared.command.Command.TheVariants as C
-use Rattle.graph_script.specs.declared.reading.Said.{Said}
+use Rattle.graph_script.specs.declared.reading.ParsedLine.{ParsedLine}
 use Rattle.graph_script.specs.declared.reading.Reading.{Reading}
 use Rattle.graph_script.specs.Checked.{Checked, ◌>>=◌, two_args, file_arg}
 use Rattle.graph_script.specs.Nodes.{new_arg}
@@ -17,12 +17,12 @@ node_and_file reading words = do
   file ← file_arg args.1
   Ok (node, args.0, file)
 
-abbrev pub source_of : Reading → List (List ℕ) → Checked Said
+abbrev pub source_of : Reading → List (List ℕ) → Checked ParsedLine
 source_of reading words = do
   new ← node_and_file reading words
   making reading (C.Source new.0 new.2) new.1 K.Source
 
-abbrev pub sink_of : Reading → List (List ℕ) → Checked Said
+abbrev pub sink_of : Reading → List (List ℕ) → Checked ParsedLine
 sink_of reading words = do
   new ← node_and_file reading words
   making reading (C.Sink new.0 new.2) new.1 K.Sink

@@ -8,34 +8,34 @@ use Rattle.graph_script.specs.declared.fault.ScriptWhy.TheVariants as W
 use Rattle.graph_script.specs.declared.fault.ScriptFault.{ScriptFault}
 use Rattle.graph_script.specs.declared.fault.ScriptFault.TheVariants as F
 use Rattle.graph_script.specs.declared.script.Script.{Script}
-use Rattle.graph_script.specs.declared.reading.Said.{Said}
+use Rattle.graph_script.specs.declared.reading.ParsedLine.{ParsedLine}
 use Rattle.graph_script.specs.declared.reading.Reading.{Reading}
 use Rattle.graph_script.specs.Lexical.{is_allowed, lines_of, words_of, say_nothing}
 use Rattle.graph_script.specs.Checked.{checked_map}
 use Rattle.graph_script.specs.Commands.{meaning_of_words}
 
 -- the meaning of a line by the lines before it: what it says, or nothing; or the cause of its fault
-unfoldable pub meaning_of_line : Reading → List ℕ → Result (Option Said) ScriptWhy
+unfoldable pub meaning_of_line : Reading → List ℕ → Result (Option ParsedLine) ScriptWhy
 meaning_of_line reading line =
     if not (list_all is_allowed line) then Err W.Byte
     else (if say_nothing (words_of line) then Ok None
     else checked_map Some (meaning_of_words reading (words_of line)))
 
 -- what the lines have said after one more, of this number
-abbrev pub reading_after : ℕ → Reading → Option Said → Reading
+abbrev pub reading_after : ℕ → Reading → Option ParsedLine → Reading
 reading_after number reading None = reading
-reading_after number reading (Some said) = record {
+reading_after number reading (Some parsed) = record {
   script = record {
-    lines = reading.script.lines ++ (record { line = number; command = said.command }) ∷ [];
-    names = reading.script.names ++ option_to_list (option_map (λ m. m.name) said.made);
+    lines = reading.script.lines ++ (record { line = number; command = parsed.command }) ∷ [];
+    names = reading.script.names ++ option_to_list (option_map (λ m. m.name) parsed.made);
   };
-  kinds = reading.kinds ++ option_to_list (option_map (λ m. m.kind) said.made);
+  kinds = reading.kinds ++ option_to_list (option_map (λ m. m.kind) parsed.made);
 }
 
 -- the same, with the line's fault at its number
-abbrev pub reading_with : ℕ → Reading → Result (Option Said) ScriptWhy
+abbrev pub reading_with : ℕ → Reading → Result (Option ParsedLine) ScriptWhy
     → Result Reading ScriptFault
-reading_with number reading (Ok said) = Ok (reading_after number reading said)
+reading_with number reading (Ok parsed) = Ok (reading_after number reading parsed)
 reading_with number reading (Err why) = Err (F.At number why)
 
 -- what follows lines that were read; a fault stays

@@ -5,7 +5,7 @@ use Rattle.pw_graph.specs.declared.ids.PortId.{PortId}
 use Rattle.pw_lists.specs.Limits.{buffers_limit}
 use Rattle.graph_script.specs.declared.fault.ScriptWhy.TheVariants as W
 use Rattle.graph_script.specs.declared.command.Command.TheVariants as C
-use Rattle.graph_script.specs.declared.reading.Said.{Said}
+use Rattle.graph_script.specs.declared.reading.ParsedLine.{ParsedLine}
 use Rattle.graph_script.specs.declared.reading.Reading.{Reading}
 use Rattle.graph_script.specs.Checked.{Checked, ◌>>=◌, two_args, three_args, number_arg, file_arg}
 use Rattle.graph_script.specs.Nodes.{port_arg, output_called, input_called, endpoint_arg}
@@ -19,12 +19,12 @@ port_and_file reading words = do
   file ← file_arg args.2
   if is_linked reading port.node then Err W.OfferLate else Ok (port, file)
 
-abbrev pub offer_of : Reading → List (List ℕ) → Checked Said
+abbrev pub offer_of : Reading → List (List ℕ) → Checked ParsedLine
 offer_of reading words = do
   offer ← port_and_file reading words
   saying (C.Offer offer.0 offer.1)
 
-abbrev pub buffers_of : Reading → List (List ℕ) → Checked Said
+abbrev pub buffers_of : Reading → List (List ℕ) → Checked ParsedLine
 buffers_of reading words = do
   args ← three_args words
   port ← port_arg reading args.0 args.1
@@ -39,12 +39,12 @@ ends_of reading words = do
   to ← endpoint_arg input_called reading args.1
   Ok (from, to)
 
-abbrev pub link_of : Reading → List (List ℕ) → Checked Said
+abbrev pub link_of : Reading → List (List ℕ) → Checked ParsedLine
 link_of reading words = do
   ends ← ends_of reading words
   saying (C.Link ends.0 ends.1)
 
-abbrev pub unlink_of : Reading → List (List ℕ) → Checked Said
+abbrev pub unlink_of : Reading → List (List ℕ) → Checked ParsedLine
 unlink_of reading words = do
   ends ← ends_of reading words
   saying (C.Unlink ends.0 ends.1)

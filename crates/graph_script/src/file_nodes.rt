@@ -9,9 +9,9 @@ use crate::arguments::two_words;
 use crate::command::Command;
 use crate::fault::ScriptWhy;
 use crate::names::file_word;
-use crate::new_nodes::{making, said_of};
+use crate::new_nodes::{making, parsed_of};
 use crate::nodes::new_node;
-use crate::reading::{Reading, Said};
+use crate::reading::{ParsedLine, Reading};
 use pw_graph::Kind;
 use pw_lists::{Items, Memory};
 use std::alloc::Global;
@@ -36,15 +36,15 @@ pub(crate) fn source(
     alloc: Global,
     reading: &Reading,
     args: &[u8],
-) -> Result<Result<Said, ScriptWhy>, Memory>
+) -> Result<Result<ParsedLine, ScriptWhy>, Memory>
     requires { IsSound reading.now }
-    ensures { IfOk result (λ said. said ≡ commands.source_of reading.now (words_of args.now)) }
+    ensures { IfOk result (λ parsed. parsed ≡ commands.source_of reading.now (words_of args.now)) }
 {
     match node_and_file(reading, args) {
         Err(why) => Ok(Err(why)),
         Ok((node, name, file)) => match Items::from_slice(alloc, file) {
             Err(memory) => Err(memory),
-            Ok(file) => said_of(
+            Ok(file) => parsed_of(
                 alloc,
                 making(reading, Command::Source { node, file }, name, Kind::Source),
             ),
@@ -57,15 +57,15 @@ pub(crate) fn sink(
     alloc: Global,
     reading: &Reading,
     args: &[u8],
-) -> Result<Result<Said, ScriptWhy>, Memory>
+) -> Result<Result<ParsedLine, ScriptWhy>, Memory>
     requires { IsSound reading.now }
-    ensures { IfOk result (λ said. said ≡ commands.sink_of reading.now (words_of args.now)) }
+    ensures { IfOk result (λ parsed. parsed ≡ commands.sink_of reading.now (words_of args.now)) }
 {
     match node_and_file(reading, args) {
         Err(why) => Ok(Err(why)),
         Ok((node, name, file)) => match Items::from_slice(alloc, file) {
             Err(memory) => Err(memory),
-            Ok(file) => said_of(
+            Ok(file) => parsed_of(
                 alloc,
                 making(reading, Command::Sink { node, file }, name, Kind::Sink),
             ),

@@ -4,7 +4,7 @@ ghost use Rattle.graph_script.specs.Lexical.{words_of};
 ghost use Rattle.graph_script.specs.Earlier.{making_epoch};
 ghost use Rattle.graph_script.specs.GraphCommands as commands;
 ghost use Rattle.graph_script.specs.Nodes.{may_drive};
-ghost use Rattle.graph_script.specs.working.Sound.{IsSound, IsTied};
+ghost use Rattle.graph_script.specs.working.Sound.{IsSound, IsConsistent};
 
 use crate::arguments::{no_words, one_word, two_words};
 use crate::command::Command;
@@ -13,22 +13,22 @@ use crate::limits::{CYCLES_LIMIT, EPOCHS_LIMIT, LOOP_LIMIT, PRIORITY_LIMIT};
 use crate::nodes::{kind_at, node_at};
 use crate::numbers::number_in;
 use crate::progress::{Progress, is_linked};
-use crate::reading::{Reading, Said};
+use crate::reading::{ParsedLine, Reading};
 use pw_graph::Kind;
 use pw_lists::{QUANTUM_LIMIT, Which};
 
 // What a command says that makes no node.
-fn saying(command: Command) -> Said
+fn saying(command: Command) -> ParsedLine
     ensures { result ≡ record { command = command; made = None } }
 {
-    Said {
+    ParsedLine {
         command,
         made: None,
     }
 }
 
 /// `quantum N`
-pub(crate) fn quantum(reading: &Reading, args: &[u8]) -> Result<Said, ScriptWhy>
+pub(crate) fn quantum(reading: &Reading, args: &[u8]) -> Result<ParsedLine, ScriptWhy>
     ensures { result ≡ commands.quantum_of reading.now (words_of args.now) }
 {
     let word = one_word(args)?;
@@ -46,7 +46,7 @@ fn may_drive(kind: &Kind) -> bool
 }
 
 /// `driver NAME PRIORITY`
-pub(crate) fn driver(reading: &Reading, args: &[u8]) -> Result<Said, ScriptWhy>
+pub(crate) fn driver(reading: &Reading, args: &[u8]) -> Result<ParsedLine, ScriptWhy>
     requires { IsSound reading.now }
     ensures { result ≡ commands.driver_of reading.now (words_of args.now) }
 {
@@ -61,7 +61,7 @@ pub(crate) fn driver(reading: &Reading, args: &[u8]) -> Result<Said, ScriptWhy>
 }
 
 /// `loop NAME K`
-pub(crate) fn data_loop(reading: &Reading, args: &[u8]) -> Result<Said, ScriptWhy>
+pub(crate) fn data_loop(reading: &Reading, args: &[u8]) -> Result<ParsedLine, ScriptWhy>
     requires { IsSound reading.now }
     ensures { result ≡ commands.loop_of reading.now (words_of args.now) }
 {
@@ -82,7 +82,7 @@ fn one_node(reading: &Reading, args: &[u8]) -> Result<u32, ScriptWhy>
 }
 
 /// `on NAME`
-pub(crate) fn on(reading: &Reading, args: &[u8]) -> Result<Said, ScriptWhy>
+pub(crate) fn on(reading: &Reading, args: &[u8]) -> Result<ParsedLine, ScriptWhy>
     requires { IsSound reading.now }
     ensures { result ≡ commands.on_of reading.now (words_of args.now) }
 {
@@ -91,7 +91,7 @@ pub(crate) fn on(reading: &Reading, args: &[u8]) -> Result<Said, ScriptWhy>
 }
 
 /// `off NAME`
-pub(crate) fn off(reading: &Reading, args: &[u8]) -> Result<Said, ScriptWhy>
+pub(crate) fn off(reading: &Reading, args: &[u8]) -> Result<ParsedLine, ScriptWhy>
     requires { IsSound reading.now }
     ensures { result ≡ commands.off_of reading.now (words_of args.now) }
 {
@@ -100,8 +100,8 @@ pub(crate) fn off(reading: &Reading, args: &[u8]) -> Result<Said, ScriptWhy>
 }
 
 /// `async NAME`
-pub(crate) fn asynchronous(progress: &Progress, args: &[u8]) -> Result<Said, ScriptWhy>
-    requires { IsTied progress.now }
+pub(crate) fn asynchronous(progress: &Progress, args: &[u8]) -> Result<ParsedLine, ScriptWhy>
+    requires { IsConsistent progress.now }
     ensures { result ≡ commands.async_of progress.now.reading (words_of args.now) }
 {
     let node = one_node(&progress.reading, args)?;
@@ -113,8 +113,8 @@ pub(crate) fn asynchronous(progress: &Progress, args: &[u8]) -> Result<Said, Scr
 }
 
 // A command that makes an epoch, where there is room for it.
-fn making_epoch(progress: &Progress, command: Command) -> Result<Said, ScriptWhy>
-    requires { IsTied progress.now }
+fn making_epoch(progress: &Progress, command: Command) -> Result<ParsedLine, ScriptWhy>
+    requires { IsConsistent progress.now }
     ensures { result ≡ making_epoch progress.now.reading command }
 {
     if progress.epochs < EPOCHS_LIMIT {
@@ -125,8 +125,8 @@ fn making_epoch(progress: &Progress, command: Command) -> Result<Said, ScriptWhy
 }
 
 /// `cycles N`
-pub(crate) fn cycles(progress: &Progress, args: &[u8]) -> Result<Said, ScriptWhy>
-    requires { IsTied progress.now }
+pub(crate) fn cycles(progress: &Progress, args: &[u8]) -> Result<ParsedLine, ScriptWhy>
+    requires { IsConsistent progress.now }
     ensures { result ≡ commands.cycles_of progress.now.reading (words_of args.now) }
 {
     let word = one_word(args)?;
@@ -135,8 +135,8 @@ pub(crate) fn cycles(progress: &Progress, args: &[u8]) -> Result<Said, ScriptWhy
 }
 
 /// `drain`
-pub(crate) fn drain(progress: &Progress, args: &[u8]) -> Result<Said, ScriptWhy>
-    requires { IsTied progress.now }
+pub(crate) fn drain(progress: &Progress, args: &[u8]) -> Result<ParsedLine, ScriptWhy>
+    requires { IsConsistent progress.now }
     ensures { result ≡ commands.drain_of progress.now.reading (words_of args.now) }
 {
     no_words(args)?;

@@ -2,13 +2,13 @@
 ghost use Rattle.std.specs.Prelude.{◌≡◌, ◌+◌, ◌≤◌, IfOk};
 ghost use Rattle.graph_script.specs.Grammar.{meaning_of_line, reading_with, IsRead};
 ghost use Rattle.graph_script.specs.working.Progress.{reading_in, AreBefore};
-ghost use Rattle.graph_script.specs.working.Sound.{IsTied};
+ghost use Rattle.graph_script.specs.working.Sound.{IsConsistent};
 
 use crate::fault::{ScriptFault, ScriptWhy};
 use crate::lexing::{is_plain, says_nothing};
 use crate::progress::{Progress, advanced};
-use crate::reading::Said;
-use crate::saying::said_by;
+use crate::reading::ParsedLine;
+use crate::saying::parsed_by;
 use pw_lists::Memory;
 use std::alloc::Global;
 
@@ -18,8 +18,8 @@ fn meaning_of_line(
     alloc: Global,
     progress: &Progress,
     line: &[u8],
-) -> Result<Result<Option<Said>, ScriptWhy>, Memory>
-    requires { IsTied progress.now }
+) -> Result<Result<Option<ParsedLine>, ScriptWhy>, Memory>
+    requires { IsConsistent progress.now }
     ensures { IfOk result (λ meaning. meaning ≡ meaning_of_line progress.now.reading line.now) }
 {
     if !is_plain(line) {
@@ -28,10 +28,10 @@ fn meaning_of_line(
     if says_nothing(line) {
         return Ok(Ok(None));
     }
-    match said_by(alloc, progress, line) {
+    match parsed_by(alloc, progress, line) {
         Err(memory) => Err(memory),
         Ok(Err(why)) => Ok(Err(why)),
-        Ok(Ok(said)) => Ok(Ok(Some(said))),
+        Ok(Ok(parsed)) => Ok(Ok(Some(parsed))),
     }
 }
 
@@ -42,19 +42,19 @@ pub(crate) fn read_line(
     number: u32,
     line: &[u8],
 ) -> Result<Progress, ScriptFault>
-    requires tied { IsTied progress }
+    requires consistent { IsConsistent progress }
     requires numbered { 1 ≤ number }
     requires before { AreBefore number progress.reading }
     ensures read { IsRead (reading_with number progress.reading
         (meaning_of_line progress.reading line.now)) (reading_in result) }
-    ensures tied { IfOk result IsTied }
+    ensures consistent { IfOk result IsConsistent }
     ensures before { IfOk result (λ after. AreBefore (number + 1) after.reading) }
 {
     match meaning_of_line(alloc, &progress, line) {
         Err(_memory) => Err(ScriptFault::Memory),
         Ok(Err(why)) => Err(ScriptFault::At { line: number, why }),
         Ok(Ok(None)) => Ok(progress),
-        Ok(Ok(Some(said))) => match advanced(progress, number, said) {
+        Ok(Ok(Some(parsed))) => match advanced(progress, number, parsed) {
             Err(_memory) => Err(ScriptFault::Memory),
             Ok(after) => Ok(after),
         },

@@ -13,10 +13,10 @@ use crate::arguments::three_words;
 use crate::command::Command;
 use crate::fault::ScriptWhy;
 use crate::lists::channels_in;
-use crate::new_nodes::{making, said_of};
+use crate::new_nodes::{making, parsed_of};
 use crate::nodes::new_node;
 use crate::numbers::number_in;
-use crate::reading::{Reading, Said};
+use crate::reading::{ParsedLine, Reading};
 use pw_graph::Kind;
 use pw_lists::{CHANNELS_LIMIT, Items, Memory};
 use std::alloc::Global;
@@ -46,8 +46,8 @@ fn mapped(
     name: &[u8],
     channels: u32,
     list: Items<u32>,
-) -> Result<Result<Said, ScriptWhy>, Memory>
-    ensures { IfOk result (λ said. said ≡ making reading.now (C.Map node channels list) name.now
+) -> Result<Result<ParsedLine, ScriptWhy>, Memory>
+    ensures { IfOk result (λ parsed. parsed ≡ making reading.now (C.Map node channels list) name.now
         (K.Map channels list)) }
 {
     match list.copy(alloc) {
@@ -62,7 +62,7 @@ fn mapped(
                 channels,
                 list: copy,
             };
-            said_of(alloc, making(reading, command, name, kind))
+            parsed_of(alloc, making(reading, command, name, kind))
         }
     }
 }
@@ -72,9 +72,9 @@ pub(crate) fn map(
     alloc: Global,
     reading: &Reading,
     args: &[u8],
-) -> Result<Result<Said, ScriptWhy>, Memory>
+) -> Result<Result<ParsedLine, ScriptWhy>, Memory>
     requires { IsSound reading.now }
-    ensures { IfOk result (λ said. said ≡ commands.map_of reading.now (words_of args.now)) }
+    ensures { IfOk result (λ parsed. parsed ≡ commands.map_of reading.now (words_of args.now)) }
 {
     match node_and_channels(reading, args) {
         Err(why) => Ok(Err(why)),

@@ -4,7 +4,7 @@ ghost use Rattle.std.specs.Prelude.{◌≡◌};
 ghost use Rattle.graph_script.specs.Lexical.{words_of};
 ghost use Rattle.graph_script.specs.Checked.{checked_map};
 ghost use Rattle.graph_script.specs.NodeCommands as commands;
-ghost use Rattle.graph_script.specs.working.Progress.{said_of};
+ghost use Rattle.graph_script.specs.working.Progress.{parsed_of};
 ghost use Rattle.graph_script.specs.working.Sound.{IsSound};
 
 use crate::arguments::{five_words, one_word, three_words, two_words};
@@ -20,7 +20,7 @@ use pw_lists::{AMP_LIMIT, CHANNELS_LIMIT, DELAY_LIMIT, GAIN_LIMIT, PERIOD_LIMIT,
 /// `square NAME RATE CHANNELS PERIOD AMP`
 pub(crate) fn square<'a>(reading: &Reading, args: &'a [u8]) -> Result<NewNode<'a>, ScriptWhy>
     requires { IsSound reading.now }
-    ensures { checked_map said_of result ≡ commands.square_of reading.now (words_of args.now) }
+    ensures { checked_map parsed_of result ≡ commands.square_of reading.now (words_of args.now) }
 {
     let (name, rate, channels, period, amp) = five_words(args)?;
     let node = new_node(reading, name)?;
@@ -47,7 +47,7 @@ pub(crate) fn square<'a>(reading: &Reading, args: &'a [u8]) -> Result<NewNode<'a
 /// `gain NAME G`
 pub(crate) fn gain<'a>(reading: &Reading, args: &'a [u8]) -> Result<NewNode<'a>, ScriptWhy>
     requires { IsSound reading.now }
-    ensures { checked_map said_of result ≡ commands.gain_of reading.now (words_of args.now) }
+    ensures { checked_map parsed_of result ≡ commands.gain_of reading.now (words_of args.now) }
 {
     let (name, g) = two_words(args)?;
     let node = new_node(reading, name)?;
@@ -58,7 +58,7 @@ pub(crate) fn gain<'a>(reading: &Reading, args: &'a [u8]) -> Result<NewNode<'a>,
 /// `mix2 NAME GA GB`
 pub(crate) fn mix2<'a>(reading: &Reading, args: &'a [u8]) -> Result<NewNode<'a>, ScriptWhy>
     requires { IsSound reading.now }
-    ensures { checked_map said_of result ≡ commands.mix2_of reading.now (words_of args.now) }
+    ensures { checked_map parsed_of result ≡ commands.mix2_of reading.now (words_of args.now) }
 {
     let (name, ga, gb) = three_words(args)?;
     let node = new_node(reading, name)?;
@@ -75,7 +75,7 @@ pub(crate) fn mix2<'a>(reading: &Reading, args: &'a [u8]) -> Result<NewNode<'a>,
 /// `delay NAME FRAMES`
 pub(crate) fn delay<'a>(reading: &Reading, args: &'a [u8]) -> Result<NewNode<'a>, ScriptWhy>
     requires { IsSound reading.now }
-    ensures { checked_map said_of result ≡ commands.delay_of reading.now (words_of args.now) }
+    ensures { checked_map parsed_of result ≡ commands.delay_of reading.now (words_of args.now) }
 {
     let (name, frames) = two_words(args)?;
     let node = new_node(reading, name)?;
@@ -91,7 +91,7 @@ pub(crate) fn delay<'a>(reading: &Reading, args: &'a [u8]) -> Result<NewNode<'a>
 /// `split NAME`
 pub(crate) fn split<'a>(reading: &Reading, args: &'a [u8]) -> Result<NewNode<'a>, ScriptWhy>
     requires { IsSound reading.now }
-    ensures { checked_map said_of result ≡ commands.split_of reading.now (words_of args.now) }
+    ensures { checked_map parsed_of result ≡ commands.split_of reading.now (words_of args.now) }
 {
     let name = one_word(args)?;
     let node = new_node(reading, name)?;
@@ -101,7 +101,7 @@ pub(crate) fn split<'a>(reading: &Reading, args: &'a [u8]) -> Result<NewNode<'a>
 /// `meter NAME`
 pub(crate) fn meter<'a>(reading: &Reading, args: &'a [u8]) -> Result<NewNode<'a>, ScriptWhy>
     requires { IsSound reading.now }
-    ensures { checked_map said_of result ≡ commands.meter_of reading.now (words_of args.now) }
+    ensures { checked_map parsed_of result ≡ commands.meter_of reading.now (words_of args.now) }
 {
     let name = one_word(args)?;
     let node = new_node(reading, name)?;

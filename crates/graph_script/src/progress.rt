@@ -6,10 +6,10 @@ ghost use Rattle.graph_script.specs.Grammar.{start, reading_after};
 ghost use Rattle.graph_script.specs.Limits.{epochs_limit};
 ghost use Rattle.graph_script.specs.working.Progress.{marked, counted};
 ghost use Rattle.graph_script.specs.Ranges.{HasNodes};
-ghost use Rattle.graph_script.specs.working.Sound.{IsTied};
+ghost use Rattle.graph_script.specs.working.Sound.{IsConsistent};
 
 use crate::command::Command;
-use crate::reading::{Reading, Said};
+use crate::reading::{ParsedLine, Reading};
 use crate::script::{Line, Script};
 use pw_graph::NODES;
 use pw_lists::{Items, Memory};
@@ -25,8 +25,8 @@ pub(crate) struct Progress {
 
 /// What no line has said. Takes no memory.
 pub(crate) fn start(alloc: Global) -> Progress
-    ensures said { result.reading ≡ start }
-    ensures tied { IsTied result }
+    ensures parsed { result.reading ≡ start }
+    ensures consistent { IsConsistent result }
 {
     let script = Script {
         lines: Items::new(alloc),
@@ -44,7 +44,7 @@ pub(crate) fn start(alloc: Global) -> Progress
 
 /// Whether an earlier link line names the node.
 pub(crate) fn is_linked(progress: &Progress, node: u32) -> bool
-    requires tied { IsTied progress.now }
+    requires consistent { IsConsistent progress.now }
     requires there { node < 64 }
     ensures { result ≡ is_linked progress.now.reading node }
 {
@@ -73,15 +73,15 @@ fn is_epoch(command: &Command) -> bool
 }
 
 // What the lines have said with one more, of this number.
-fn extended(reading: Reading, number: u32, said: Said) -> Result<Reading, Memory>
-    ensures { IfOk result (λ after. after ≡ reading_after number reading (Some said)) }
+fn extended(reading: Reading, number: u32, parsed: ParsedLine) -> Result<Reading, Memory>
+    ensures { IfOk result (λ after. after ≡ reading_after number reading (Some parsed)) }
 {
     let mut after = reading;
     after.script.lines.push(Line {
         line: number,
-        command: said.command,
+        command: parsed.command,
     })?;
-    match said.made {
+    match parsed.made {
         None => {}
         Some(made) => {
             after.script.names.push(made.name)?;
@@ -92,21 +92,25 @@ fn extended(reading: Reading, number: u32, said: Said) -> Result<Reading, Memory
 }
 
 /// What the lines have said with one more, of this number.
-pub(crate) fn advanced(progress: Progress, number: u32, said: Said) -> Result<Progress, Memory>
-    requires there { HasNodes 64 said.command }
+pub(crate) fn advanced(
+    progress: Progress,
+    number: u32,
+    parsed: ParsedLine,
+) -> Result<Progress, Memory>
+    requires there { HasNodes 64 parsed.command }
     requires few { progress.epochs ≤ epochs_limit }
-    ensures said { IfOk result (λ after.
-        after.reading ≡ reading_after number progress.reading (Some said)) }
-    ensures linked { IfOk result (λ after. after.linked ≡ marked progress.linked said.command) }
-    ensures epochs { IfOk result (λ after. after.epochs ≡ counted progress.epochs said.command) }
+    ensures parsed { IfOk result (λ after.
+        after.reading ≡ reading_after number progress.reading (Some parsed)) }
+    ensures linked { IfOk result (λ after. after.linked ≡ marked progress.linked parsed.command) }
+    ensures epochs { IfOk result (λ after. after.epochs ≡ counted progress.epochs parsed.command) }
 {
     let mut linked = progress.linked;
-    mark(&mut linked, &said.command);
+    mark(&mut linked, &parsed.command);
     let mut epochs = progress.epochs;
-    if is_epoch(&said.command) {
+    if is_epoch(&parsed.command) {
         epochs += 1;
     }
-    match extended(progress.reading, number, said) {
+    match extended(progress.reading, number, parsed) {
         Err(memory) => Err(memory),
         Ok(reading) => Ok(Progress {
             reading,

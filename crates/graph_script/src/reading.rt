@@ -14,7 +14,7 @@ pub(crate) struct Made {
 
 /// What a line says: a command, and the node that it makes, if it makes one.
 #[derive(Drop)]
-pub(crate) struct Said {
+pub(crate) struct ParsedLine {
     pub command: Command,
     pub made: Option<Made>,
 }

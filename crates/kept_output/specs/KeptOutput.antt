@@ -27,6 +27,6 @@ IsKeptBy bytes (Ok done) old new = IsKept bytes old new
 IsKeptBy bytes (Err fail) old new = new ≡ None
 
 -- WHAT IS KEPT was given since the beginning, and nothing else
-abbrev pub IsTied : Given → Given → Option (List ℕ) → Type 0
-IsTied started given None = Unit {0}
-IsTied started given (Some text) = Gave text started given
+abbrev pub IsGivenSince : Given → Given → Option (List ℕ) → Type 0
+IsGivenSince started given None = Unit {0}
+IsGivenSince started given (Some text) = Gave text started given

@@ -2,7 +2,7 @@
 ghost use Rattle.std.specs.Prelude.{◌≡◌, ◌≤◌, [], Some, None};
 ghost use Rattle.pw_outside.specs.Causes.{HasCause};
 ghost use Rattle.pw_outside.specs.Output.{Given, IsPut};
-ghost use Rattle.kept_output.specs.KeptOutput.{IsTied, IsKeptBy};
+ghost use Rattle.kept_output.specs.KeptOutput.{IsGivenSince, IsKeptBy};
 
 use crate::kept::kept_by;
 use pw_lists::{Items, Text};
@@ -26,7 +26,7 @@ pub struct KeptOutput<O: Sink, S: Started> {
     kept: Option<Text>,
     at: PhantomData<S>,
     // What is kept is what was given from the beginning on.
-    ghost tied: { ∥ IsTied S.started (O.given out) kept ∥₁ },
+    ghost since: { ∥ IsGivenSince S.started (O.given out) kept ∥₁ },
 }
 
 impl<O: Sink, S: Started> KeptOutput<O, S> {
@@ -48,7 +48,7 @@ impl<O: Sink, S: Started> KeptOutput<O, S> {
         ensures out { result.0 ≡ self.out }
         ensures kept { result.1 ≡ self.kept }
         // It was given just this.
-        ensures given { IsTied S.started (O.given result.0) result.1 }
+        ensures given { IsGivenSince S.started (O.given result.0) result.1 }
     {
         let KeptOutput { out, kept, at: _at } = self;
         (out, kept)

@@ -31,12 +31,12 @@ module _ {X : Type 0} (all xs : List X) (x : X) (is : all ≡ xs ++ x ∷ []) (o
 -- a plan of one epoch before its first cycle
 module _ (boards bs : List Board) (b : Board) (boards_are : boards ≡ bs ++ b ∷ []) (one : length boards ≡ 1) (drivers ds : List Known) (seat : Known)
     (drivers_are : drivers ≡ ds ++ seat ∷ []) (loops : ℕ) (xs : List LoopState) (own : LoopState) (ready : AreReady boards loops (xs ++ own ∷ []))
-    (leads : AreFirstLeads own.score boards drivers) where
+    (leads : AreFirstLeads own.run_model boards drivers) where
   here : slice_get boards 0 ≡ Some b
   here = only_get boards bs b boards_are one
 
-  lead : IsFirstLead own.score 0 b seat
-  lead = let n = leads.count in subst (IsFirstLead own.score 0 b) (only_at drivers ds seat drivers_are (omega (arith, n, one))) (leads.each 0 b seat here)
+  lead : IsFirstLead own.run_model 0 b seat
+  lead = let n = leads.count in subst (IsFirstLead own.run_model 0 b) (only_at drivers ds seat drivers_are (omega (arith, n, one))) (leads.each 0 b seat here)
 
   pub first_thread : IsThread b seat own xs
   first_thread = let mine = own_ready boards loops xs own ready in let others = others_ready boards loops xs own ready in
@@ -59,6 +59,6 @@ module _ (board : Board) (s : Known) (own : LoopState) (others : List LoopState)
     leads = h.leads;
     stands = h.stands;
     driver = h.driver;
-    tied = h.tied;
+    led_so_far = h.led_so_far;
     adopted_stand = All-set (IsOnBoard (layout board) (table_of board)) others k x on h.adopted_stand;
   }

@@ -37,7 +37,7 @@ fn run_open<R: Wait>(
     requires has { HasDrivers own.old }
     requires adopted { All (IsReady boards.now) adopted.old }
     requires none { All HasNoDriver adopted.old }
-    requires drivers { AreFirstLeads own.old.score boards.now drivers.old }
+    requires drivers { AreFirstLeads own.old.run_model boards.now drivers.old }
     requires way { IsDriverWay ways.now way.old }
     ensures own { HasCome (length boards.now) own.old own.new }
 {

@@ -28,7 +28,7 @@ use Rattle.node_state.specs.declared.node_state.NodeState.{NodeState}
 use Rattle.node_state.specs.StandsFor.{StandsFor, node_kind, kept_stream}
 use Rattle.node_state.specs.Streams.{stream_kept_by, peak_kept_by}
 use Rattle.node_state.proofs.KeptLemmas.{kept_is_stream}
-use Rattle.node_progress.specs.declared.score.Score.{Score}
+use Rattle.node_progress.specs.declared.run_model.RunModel.{RunModel}
 use Rattle.node_progress.specs.Ends.{received_now, IsNodeAtEnd}
 use Rattle.node_progress.specs.Standing.{port_at, read_by}
 use Rattle.node_progress.specs.NodeStates.{first_of, IsNodeState}
@@ -36,31 +36,31 @@ use Rattle.node_progress.proofs.RestartsLemmas.{have_cycles, released_past}
 
 -- AT ANY TIME
 
-pub stands_now : (score : Score) (k c n : ℕ) (s : NodeState) → IsNodeState score k c n s
-    → StandsFor s (read_by score n s (received_now score k c n))
-stands_now score k c n s st =
-    let out = outputs score.plan.value score.waves.value in
-    let first = first_of score.plan.value k in
-    let before = received_before score.plan.value out c n in
-    let until = received_until score.plan.value out c n in
+pub stands_now : (run_model : RunModel) (k c n : ℕ) (s : NodeState) → IsNodeState run_model k c n s
+    → StandsFor s (read_by run_model n s (received_now run_model k c n))
+stands_now run_model k c n s st =
+    let out = outputs run_model.plan.value run_model.waves.value in
+    let first = first_of run_model.plan.value k in
+    let before = received_before run_model.plan.value out c n in
+    let until = received_until run_model.plan.value out c n in
     ⊎_elim
-    (λ (is : c ≡ first). subst (λ (r : Received). StandsFor s (read_by score n s r)) (sym (cond-true (c == first) before until (eq-eqb c first is)))
+    (λ (is : c ≡ first). subst (λ (r : Received). StandsFor s (read_by run_model n s r)) (sym (cond-true (c == first) before until (eq-eqb c first is)))
     (st.begun is))
-    (λ (later : c ≢ first). subst (λ (r : Received). StandsFor s (read_by score n s r))
+    (λ (later : c ≢ first). subst (λ (r : Received). StandsFor s (read_by run_model n s r))
     (sym (cond-false (c == first) before until (ne_eqb c first later))) (st.done later))
     (cases_eq c first)
 
 -- a sink keeps the stream of its input
-pub kept_now : (score : Score) (k c n : ℕ) (s : NodeState) → IsNodeState score k c n s → kind_at score.plan.value n ≡ Sink
-    → kept_stream s ≡ (received_now score k c n).a
-kept_now score k c n s st sink = let h : KindInputs = read_by score n s (received_now score k c n) in
-    kept_is_stream s.state s.channels s.prepared h (stands_now score k c n s st).1 ∙ ap (λ kd. stream_kept_by kd h) (st.kind ∙ sink)
+pub kept_now : (run_model : RunModel) (k c n : ℕ) (s : NodeState) → IsNodeState run_model k c n s → kind_at run_model.plan.value n ≡ Sink
+    → kept_stream s ≡ (received_now run_model k c n).a
+kept_now run_model k c n s st sink = let h : KindInputs = read_by run_model n s (received_now run_model k c n) in
+    kept_is_stream s.state s.channels s.prepared h (stands_now run_model k c n s st).1 ∙ ap (λ kd. stream_kept_by kd h) (st.kind ∙ sink)
 
 -- what a meter answers of all that it may stand for is the peak of its input's stream
-pub greatest_now : (score : Score) (k c n : ℕ) (s : NodeState) → IsNodeState score k c n s → kind_at score.plan.value n ≡ Meter
-    → (m : ℕ) → ((h : KindInputs) → StandsFor s h → m ≡ peak_kept_by (node_kind s) h) → m ≡ peak_of (received_now score k c n).a
-greatest_now score k c n s st meter m is = let h : KindInputs = read_by score n s (received_now score k c n) in
-    is h (stands_now score k c n s st) ∙ ap (λ kd. peak_kept_by kd h) (st.kind ∙ meter)
+pub greatest_now : (run_model : RunModel) (k c n : ℕ) (s : NodeState) → IsNodeState run_model k c n s → kind_at run_model.plan.value n ≡ Meter
+    → (m : ℕ) → ((h : KindInputs) → StandsFor s h → m ≡ peak_kept_by (node_kind s) h) → m ≡ peak_of (received_now run_model k c n).a
+greatest_now run_model k c n s st meter m is = let h : KindInputs = read_by run_model n s (received_now run_model k c n) in
+    is h (stands_now run_model k c n s st) ∙ ap (λ kd. peak_kept_by kd h) (st.kind ∙ meter)
 
 -- AT THE END
 
@@ -72,12 +72,12 @@ past_last (e ∷ es) = past_last es
 pub end_first : (plan : Plan) → first_of plan (length plan.epochs) ≡ all_cycles plan
 end_first plan = ap (λ o. unwrap_or (option_map (λ (e : Epoch). e.shape.first) o) (all_cycles plan)) (past_last plan.epochs)
 
-received_end : (score : Score) → IsSoundPlan score.plan.value → (n : ℕ)
-    → received_now score (length score.plan.value.epochs) (all_cycles score.plan.value) n
-    ≡ received_until score.plan.value (outputs score.plan.value score.waves.value) (all_cycles score.plan.value) n
-received_end score sound n =
-    let plan = score.plan.value in
-    let out = outputs plan score.waves.value in
+received_end : (run_model : RunModel) → IsSoundPlan run_model.plan.value → (n : ℕ)
+    → received_now run_model (length run_model.plan.value.epochs) (all_cycles run_model.plan.value) n
+    ≡ received_until run_model.plan.value (outputs run_model.plan.value run_model.waves.value) (all_cycles run_model.plan.value) n
+received_end run_model sound n =
+    let plan = run_model.plan.value in
+    let out = outputs plan run_model.waves.value in
     let all = all_cycles plan in
     let before = received_before plan out all n in
     let until = received_until plan out all n in
@@ -94,29 +94,29 @@ end_of plan out port (suc m) =
     cond-false (suc m == 0) [] (stream_of plan out (suc m - 1) port) (ne_eqb (suc m) 0 (λ e. omega (arith, e)))
     ∙ ap (λ c. stream_of plan out c port) less
 
-module _ (score : Score) (sound : IsSoundPlan score.plan.value) (n : ℕ) where
+module _ (run_model : RunModel) (sound : IsSoundPlan run_model.plan.value) (n : ℕ) where
   abbrev plan : Plan
-  plan = score.plan.value
+  plan = run_model.plan.value
 
   abbrev waves : List WavIn
-  waves = score.waves.value
+  waves = run_model.waves.value
 
   read_end : nat_lt 0 (input_count (kind_at plan n)) ≡ true
-      → (received_now score (length plan.epochs) (all_cycles plan) n).a ≡ end_stream plan waves n
-  read_end some = ap (λ (r : Received). r.a) (received_end score sound n)
+      → (received_now run_model (length plan.epochs) (all_cycles plan) n).a ≡ end_stream plan waves n
+  read_end some = ap (λ (r : Received). r.a) (received_end run_model sound n)
       ∙ cond-true (nat_lt 0 (input_count (kind_at plan n))) (streamed plan (outputs plan waves) (all_cycles plan) (port_at n 0)) [] some
       ∙ sym (end_of plan (outputs plan waves) (port_at n 0) (all_cycles plan))
 
-  module _ (s : NodeState) (st : IsNodeAtEnd score n s) where
+  module _ (s : NodeState) (st : IsNodeAtEnd run_model n s) where
     -- A SINK keeps the stream that the rendering names
     pub kept_at_end : kind_at plan n ≡ Sink → kept_stream s ≡ end_stream plan waves n
-    kept_at_end sink = kept_now score (length plan.epochs) (all_cycles plan) n s st sink
+    kept_at_end sink = kept_now run_model (length plan.epochs) (all_cycles plan) n s st sink
         ∙ read_end (ap (λ kd. nat_lt 0 (input_count kd)) sink)
 
     -- A METER knows the peak of it
     pub greatest_at_end : kind_at plan n ≡ Meter → (m : ℕ) → ((h : KindInputs) → StandsFor s h → m ≡ peak_kept_by (node_kind s) h)
         → m ≡ peak_of (end_stream plan waves n)
-    greatest_at_end meter m is = greatest_now score (length plan.epochs) (all_cycles plan) n s st meter m is
+    greatest_at_end meter m is = greatest_now run_model (length plan.epochs) (all_cycles plan) n s st meter m is
         ∙ ap peak_of (read_end (ap (λ kd. nat_lt 0 (input_count kd)) meter))
 
     -- so the entries of the rendering are those of the states

@@ -29,8 +29,8 @@ use Rattle.cycle_model.proofs.SoundPlanLemmas.{channels_are}
 use Rattle.node_state.specs.declared.node_state.NodeState.{NodeState}
 use Rattle.node_state.specs.Slices.{first_channels, second_channels, left_channels, right_channels, HaveFrames}
 use Rattle.node_state.specs.StandsFor.{IsQuantum, node_channels}
-use Rattle.node_progress.specs.declared.score.Score.{Score}
-use Rattle.node_progress.specs.Standing.{port_at, out_channels, comes_in, wide_at}
+use Rattle.node_progress.specs.declared.run_model.RunModel.{RunModel}
+use Rattle.node_progress.specs.Standing.{port_at, out_channels, receives, wide_at}
 use Rattle.node_progress.specs.NodeCycles.{FitsOutput}
 use Rattle.node_progress.specs.NodeStates.{wave_channels_of, IsNodeState, IsWorkedIn, IsOutputRow}
 use Rattle.node_progress.proofs.StateLemmas.{here, epoch_sound, renderable, part, quantum_is}
@@ -60,9 +60,9 @@ one_port Sink i ends low = omega (arith, low)
 one_port Meter i ends low = omega (arith, low)
 one_port _ i ends low = absurd ends
 
-module _ (score : Score) (k c n : ℕ) (w : IsWorkedIn score k c n) where
+module _ (run_model : RunModel) (k c n : ℕ) (w : IsWorkedIn run_model k c n) where
   abbrev plan : Plan
-  plan = score.plan.value
+  plan = run_model.plan.value
 
   abbrev e : Epoch
   e = w.epoch
@@ -76,7 +76,7 @@ module _ (score : Score) (k c n : ℕ) (w : IsWorkedIn score k c n) where
     may : MayHaveChannels (kind_at plan n) i channels
 
   formed : (i rate channels : ℕ) → HasForm e (port_at n i) rate channels → HasChannels i
-  formed i rate channels form = let h = epoch_sound score k c n w in record {
+  formed i rate channels form = let h = epoch_sound run_model k c n w in record {
     rate = rate;
     channels = channels;
     form = form;
@@ -85,7 +85,7 @@ module _ (score : Score) (k c n : ℕ) (w : IsWorkedIn score k c n) where
   }
 
   has : (i : ℕ) → i < port_count (kind_at plan n) → HasChannels i
-  has i low = let h = epoch_sound score k c n w in ⊎_elim
+  has i low = let h = epoch_sound run_model k c n w in ⊎_elim
       (λ (drives : e.shape.driver ≡ n).
       let test : (e.shape.driver == n) ≡ true = eq-eqb e.shape.driver n drives in
       let parts = (and_parts _ (not (e.shape.driver == n) || list_any (λ f. is_same_port f.port (port_at n 0)) e.forms) w.works).1 in
@@ -98,7 +98,7 @@ module _ (score : Score) (k c n : ℕ) (w : IsWorkedIn score k c n) where
       subst HasChannels (sym z) (formed 0 f.0.rate f.0.channels
       (subst (λ p. Contains e.forms (record { port = p; rate = f.0.rate; channels = f.0.channels })) f.2 f.1)))
       (λ (follows : e.shape.driver ≢ n).
-      let x = h.forms.whole (port_at n i) (takes_in e n (part score k c n w)) (λ is. follows (sym is)) low in
+      let x = h.forms.whole (port_at n i) (takes_in e n (part run_model k c n w)) (λ is. follows (sym is)) low in
       formed i x.0 x.1 x.2)
       (cases_eq e.shape.driver n)
 
@@ -106,25 +106,25 @@ module _ (score : Score) (k c n : ℕ) (w : IsWorkedIn score k c n) where
   ch i = channels_of e.forms (port_at n i)
 
   pub now_is : (i : ℕ) → channels_at plan c (port_at n i) ≡ ch i
-  now_is i = ap (λ o. channels_of (listed (λ x. x.forms) o) (port_at n i)) (here score k c n w)
+  now_is i = ap (λ o. channels_of (listed (λ x. x.forms) o) (port_at n i)) (here run_model k c n w)
 
   -- what is received is as wide as that
-  pub came_long : (i : ℕ) (a : List ℤ) → a ≡ comes_in score c n i → length a ≡ wide_at plan c n i
+  pub came_long : (i : ℕ) (a : List ℤ) → a ≡ receives run_model c n i → length a ≡ wide_at plan c n i
   came_long i a is = ap length is ∙ ⊎_elim
       (λ (t : nat_lt i (input_count (kind_at plan n)) ≡ true).
-      ap length (cond-true (nat_lt i (input_count (kind_at plan n))) (input_of plan (outputs plan score.waves.value) c (port_at n i)) [] t)
-      ∙ formed_inputs plan score.waves.value (renderable score k c n w) (sound_is_formed plan w.sound) c e (port_at n i) (here score k c n w)
+      ap length (cond-true (nat_lt i (input_count (kind_at plan n))) (input_of plan (outputs plan run_model.waves.value) c (port_at n i)) [] t)
+      ∙ formed_inputs plan run_model.waves.value (renderable run_model k c n w) (sound_is_formed plan w.sound) c e (port_at n i) (here run_model k c n w)
       ∙ ap (λ m. plan.quantum * m) (sym (now_is i))
       ∙ sym (cond-true (nat_lt i (input_count (kind_at plan n))) (plan.quantum * channels_at plan c (port_at n i)) 0 t))
       (λ (f : nat_lt i (input_count (kind_at plan n)) ≡ false).
-      ap length (cond-false (nat_lt i (input_count (kind_at plan n))) (input_of plan (outputs plan score.waves.value) c (port_at n i)) [] f)
+      ap length (cond-false (nat_lt i (input_count (kind_at plan n))) (input_of plan (outputs plan run_model.waves.value) c (port_at n i)) [] f)
       ∙ sym (cond-false (nat_lt i (input_count (kind_at plan n))) (plan.quantum * channels_at plan c (port_at n i)) 0 f))
       (cases_Bool (nat_lt i (input_count (kind_at plan n))))
 
   -- by the kind, the channels of the inputs and of the outputs
   agrees : (kd : Kind) → kind_at plan n ≡ kd → (o : ℕ) → o < output_count kd → AgreesIn kd (ch 0) (ch 1) (ch (input_count kd + o))
   agrees kd is o low = subst (λ x. AgreesIn x (ch 0) (ch 1) (ch (input_count kd + o))) is
-      (sound_is_formed plan w.sound c e (port_at n (input_count kd + o)) (here score k c n w) (part score k c n w) (
+      (sound_is_formed plan w.sound c e (port_at n (input_count kd + o)) (here run_model k c n w) (part run_model k c n w) (
         subst (λ x. input_count x ≤ input_count kd + o) (sym is) (omega arith),
         subst (λ x. input_count kd + o < port_count x) (sym is) (omega (arith, low)),
       ))
@@ -146,7 +146,7 @@ module _ (score : Score) (k c n : ℕ) (w : IsWorkedIn score k c n) where
   first_may kd is i low = let h = has i (subst (λ x. i < port_count x) (sym is) low) in
       subst (MayHaveChannels kd i) (sym h.is) (subst (λ x. MayHaveChannels x i h.channels) is h.may)
 
-  module _ (s : NodeState) (st : IsNodeState score k c n s) where
+  module _ (s : NodeState) (st : IsNodeState run_model k c n s) where
     abbrev nc : ℕ
     nc = node_channels s
 
@@ -186,17 +186,17 @@ module _ (score : Score) (k c n : ℕ) (w : IsWorkedIn score k c n) where
     second_is Dummy is = omega arith
 
     -- a source's form is its wave's
-    wave_is : kind_at plan n ≡ Source → ch 0 ≡ wave_channels_of score.waves.value n
+    wave_is : kind_at plan n ≡ Source → ch 0 ≡ wave_channels_of run_model.waves.value n
     wave_is is =
         let h = has 0 (subst (λ x. 0 < port_count x) (sym is) (omega arith)) in
-        let x = wave_found (IsWaveOfSource plan) score.waves.value n w.waves.sources (w.waves.one n is) in
+        let x = wave_found (IsWaveOfSource plan) run_model.waves.value n w.waves.sources (w.waves.one n is) in
         let low = slice_get_within plan.epochs k e w.at in
         let own : All (IsFormOf x.0) e.forms = subst (λ y. All (IsFormOf x.0) y.forms) (get_or_from_slice_get plan.epochs k e e w.at)
         (x.1.forms k e low) in
         h.is ∙ (All-contains (IsFormOf x.0) e.forms (record { port = port_at n 0; rate = h.rate; channels = h.channels }) own h.form (sym x.2)).1
         ∙ sym (ap (λ o. unwrap_or (option_map (λ (v : WavIn). v.wav.channels) o) 0) x.3)
 
-    left_is : (kd : Kind) → kind_at plan n ≡ kd → 0 < output_count kd → ch (input_count kd + 0) ≡ left_channels kd (wave_channels_of score.waves.value n) nc
+    left_is : (kd : Kind) → kind_at plan n ≡ kd → 0 < output_count kd → ch (input_count kd + 0) ≡ left_channels kd (wave_channels_of run_model.waves.value n) nc
     left_is Source is some = wave_is is
     left_is (Square r x p a) is some = first_may (Square r x p a) is 0 (omega arith)
     left_is (Gain g) is some = sym (agrees (Gain g) is 0 some) ∙ sym (told_of (Gain g) is (omega arith))
@@ -210,7 +210,7 @@ module _ (score : Score) (k c n : ℕ) (w : IsWorkedIn score k c n) where
 
     -- a second output has the channels of the first, and one
     right_is : (kd : Kind) → kind_at plan n ≡ kd → 1 < output_count kd
-        → (ch (input_count kd + 1) ≡ right_channels kd) × (right_channels kd ≡ left_channels kd (wave_channels_of score.waves.value n) nc)
+        → (ch (input_count kd + 1) ≡ right_channels kd) × (right_channels kd ≡ left_channels kd (wave_channels_of run_model.waves.value n) nc)
     right_is Split is some = ((agrees Split is 1 some).1, refl)
     right_is Source is some = absurd (omega (arith, some))
     right_is (Square r x p a) is some = absurd (omega (arith, some))
@@ -226,14 +226,14 @@ module _ (score : Score) (k c n : ℕ) (w : IsWorkedIn score k c n) where
     wide i = ap (λ m. cond (nat_lt i (input_count (kind_at plan n))) (plan.quantum * m) 0) (now_is i)
 
     abbrev out_is : ℕ
-    out_is = left_channels (kind_at plan n) (wave_channels_of score.waves.value n) nc
+    out_is = left_channels (kind_at plan n) (wave_channels_of run_model.waves.value n) nc
 
     same_out : out_channels s ≡ out_is
     same_out i = left_channels (st.kind i) (st.wave i) nc
 
     module _ (a b left right : List ℤ) (a_long : length a ≡ wide_at plan c n 0) (b_long : length b ≡ wide_at plan c n 1)
         (l : IsOutputRow plan e n 0 left) (r : IsOutputRow plan e n 1 right) where
-      frames : HaveFrames plan.quantum (kind_at plan n) (wave_channels_of score.waves.value n) nc a b left right
+      frames : HaveFrames plan.quantum (kind_at plan n) (wave_channels_of run_model.waves.value n) nc a b left right
       frames = (
         a_long ∙ wide 0 ∙ first_is (kind_at plan n) refl,
         b_long ∙ wide 1 ∙ second_is (kind_at plan n) refl,
@@ -243,7 +243,7 @@ module _ (score : Score) (k c n : ℕ) (w : IsWorkedIn score k c n) where
 
       pub slices : IsQuantum s a b left right
       slices = inl (subst (λ (x : ℕ × Kind × ℕ). HaveFrames x.0 x.1 x.2 nc a b left right)
-          (λ i. (sym (quantum_is score k c n w s st) i, sym st.kind i, sym st.wave i)) frames)
+          (λ i. (sym (quantum_is run_model k c n w s st) i, sym st.kind i, sym st.wave i)) frames)
 
       pub left_fits : FitsOutput plan e n s 0 left
       left_fits = ⊎_elim (λ none. inl none) (λ some. inr (some.1, left_is (kind_at plan n) refl some.0 ∙ sym same_out)) l

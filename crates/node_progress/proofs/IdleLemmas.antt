@@ -30,17 +30,17 @@ use Rattle.cycle_model.proofs.ExpectedLemmas.{cycle_in}
 use Rattle.cycle_model.proofs.ProgressLemmas.{filter_more, released_is, stream_parts}
 use Rattle.node_state.specs.declared.node_state.NodeState.{NodeState}
 use Rattle.node_state.specs.StandsFor.{StandsFor}
-use Rattle.node_progress.specs.declared.score.Score.{Score}
+use Rattle.node_progress.specs.declared.run_model.RunModel.{RunModel}
 use Rattle.node_progress.specs.Standing.{port_at, read_by, HasReceivedBefore, HasReceivedUntil, works_in, works, worked}
 use Rattle.node_progress.specs.NodeStates.{first_of, IsNodeState}
 use Rattle.node_progress.proofs.StateLemmas.{not_released}
 use Rattle.node_progress.proofs.RestartsLemmas.{nothing_in, have_cycles}
 
 -- a state stands for streams only
-pub alike : (score : Score) (n : ℕ) (s : NodeState) (r q : Received) → r.a ≡ q.a → r.b ≡ q.b → StandsFor s (read_by score n s r)
-    → StandsFor s (read_by score n s q)
-alike score n s r q ea eb = subst (λ (ab : List ℤ × List ℤ).
-    StandsFor s (read_by score n s (record { frames = 0; a = ab.0; b = ab.1 }))) (λ i. (ea i, eb i))
+pub alike : (run_model : RunModel) (n : ℕ) (s : NodeState) (r q : Received) → r.a ≡ q.a → r.b ≡ q.b → StandsFor s (read_by run_model n s r)
+    → StandsFor s (read_by run_model n s q)
+alike run_model n s r q ea eb = subst (λ (ab : List ℤ × List ℤ).
+    StandsFor s (read_by run_model n s (record { frames = 0; a = ab.0; b = ab.1 }))) (λ i. (ea i, eb i))
 
 -- a port that no form is of has no channels
 no_channels : (forms : List PortForm) (port : PortId) → list_any (λ f. is_same_port f.port port) forms ≡ false → channels_of forms port ≡ 0
@@ -69,13 +69,13 @@ one_input kd (suc i) ends x y same =
     let past : nat_lt (suc i) (input_count kd) ≡ false = le-ltb (suc i) (input_count kd) (let one = ends_once kd ends in omega (arith, one)) in
     cond-false (nat_lt (suc i) (input_count kd)) x [] past ∙ sym (cond-false (nat_lt (suc i) (input_count kd)) y [] past)
 
-module _ (score : Score) (k : ℕ) (e : Epoch) (n : ℕ) (sound : IsSoundPlan score.plan.value)
-    (place : n < length score.plan.value.nodes) (at : IsEpoch score.plan.value k e) (off : works_in e n ≡ false) where
+module _ (run_model : RunModel) (k : ℕ) (e : Epoch) (n : ℕ) (sound : IsSoundPlan run_model.plan.value)
+    (place : n < length run_model.plan.value.nodes) (at : IsEpoch run_model.plan.value k e) (off : works_in e n ≡ false) where
   abbrev plan : Plan
-  plan = score.plan.value
+  plan = run_model.plan.value
 
   abbrev out : Outputs
-  out = outputs plan score.waves.value
+  out = outputs plan run_model.waves.value
 
   abbrev first : ℕ
   first = e.shape.first
@@ -123,22 +123,22 @@ module _ (score : Score) (k : ℕ) (e : Epoch) (n : ℕ) (sound : IsSoundPlan sc
 
   module _ (s : NodeState) where
     -- one cycle
-    one : (c : ℕ) → IsOf c → HasReceivedBefore score c n s → HasReceivedUntil score (suc c) n s
-    one c of = alike score n s (received_before plan out c n) (received_until plan out (suc c) n) (quiet c of 0) (quiet c of 1)
+    one : (c : ℕ) → IsOf c → HasReceivedBefore run_model c n s → HasReceivedUntil run_model (suc c) n s
+    one c of = alike run_model n s (received_before plan out c n) (received_until plan out (suc c) n) (quiet c of 0) (quiet c of 1)
 
     -- the cycle m of the epoch, counted from 0
-    all : HasReceivedBefore score first n s → (m c : ℕ) → c ≡ first + m → m < e.shape.cycles → HasReceivedUntil score (suc c) n s
+    all : HasReceivedBefore run_model first n s → (m c : ℕ) → c ≡ first + m → m < e.shape.cycles → HasReceivedUntil run_model (suc c) n s
     all before zero c is low = one c (omega (arith, is), omega (arith, is, low))
-        (subst (λ j. HasReceivedBefore score j n s) (let same : first ≡ c = omega (arith, is) in same) before)
+        (subst (λ j. HasReceivedBefore run_model j n s) (let same : first ≡ c = omega (arith, is) in same) before)
     all before (suc m) c is low =
         let last : ℕ = first + m in
         let next : suc last ≡ c = omega (arith, is) in
-        let so_far : HasReceivedUntil score c n s = subst (λ j. HasReceivedUntil score j n s) next
+        let so_far : HasReceivedUntil run_model c n s = subst (λ j. HasReceivedUntil run_model j n s) next
         (all before m last refl (omega (arith, low))) in
         let stays : is_released plan.epochs c n ≡ false = not_released 0 plan.epochs k e c n sound.follow at (omega (arith, is))
         (omega (arith, is, low)) in
         one c (omega (arith, is), omega (arith, is, low))
-        (subst (λ (r : Received). StandsFor s (read_by score n s r)) (sym (released_is plan out c n sound.follow
+        (subst (λ (r : Received). StandsFor s (read_by run_model n s r)) (sym (released_is plan out c n sound.follow
         ∙ cond-false (is_released plan.epochs c n) (released (received_until plan out c n)) (received_until plan out c n) stays)) so_far)
 
   -- it works in no cycle
@@ -164,23 +164,23 @@ module _ (score : Score) (k : ℕ) (e : Epoch) (n : ℕ) (sound : IsSoundPlan sc
   first_here = ap (λ o. unwrap_or (option_map (λ (x : Epoch). x.shape.first) o) (all_cycles plan)) at
 
 -- THROUGH the epoch: the state stands at its end as it stood at its begin
-pub idle_through : (score : Score) (k : ℕ) (e : Epoch) (n : ℕ) → IsSoundPlan score.plan.value → WavesFit score.plan.value score.waves.value
-    → n < length score.plan.value.nodes → IsEpoch score.plan.value k e → works_in e n ≡ false → (s : NodeState)
-    → IsNodeState score k e.shape.first n s → IsNodeState score k (e.shape.first + e.shape.cycles) n s
-idle_through score k e n sound fit place at off s st =
-    let plan = score.plan.value in
-    let more = some score k e n sound place at off in
-    let begins = first_here score k e n sound place at off in
+pub idle_through : (run_model : RunModel) (k : ℕ) (e : Epoch) (n : ℕ) → IsSoundPlan run_model.plan.value → WavesFit run_model.plan.value run_model.waves.value
+    → n < length run_model.plan.value.nodes → IsEpoch run_model.plan.value k e → works_in e n ≡ false → (s : NodeState)
+    → IsNodeState run_model k e.shape.first n s → IsNodeState run_model k (e.shape.first + e.shape.cycles) n s
+idle_through run_model k e n sound fit place at off s st =
+    let plan = run_model.plan.value in
+    let more = some run_model k e n sound place at off in
+    let begins = first_here run_model k e n sound place at off in
     let last : ℕ = e.shape.first + (e.shape.cycles - 1) in
     let end : suc last ≡ e.shape.first + e.shape.cycles = omega (arith, more) in record {
       kind = st.kind;
       wave = st.wave;
       quantum = st.quantum;
-      frames = st.frames ∙ ap (λ m. plan.quantum * m) (sym (worked_still score k e n sound place at off e.shape.cycles (omega arith)));
+      frames = st.frames ∙ ap (λ m. plan.quantum * m) (sym (worked_still run_model k e n sound place at off e.shape.cycles (omega arith)));
       prepared = st.prepared;
       most = st.most;
       channels = st.channels;
       begun = λ is. absurd (omega (arith, is, begins, more));
-      done = λ later. subst (λ j. HasReceivedUntil score j n s) end
-          (all score k e n sound place at off s (st.begun (sym begins)) (e.shape.cycles - 1) last refl (omega (arith, more)));
+      done = λ later. subst (λ j. HasReceivedUntil run_model j n s) end
+          (all run_model k e n sound place at off s (st.begun (sym begins)) (e.shape.cycles - 1) last refl (omega (arith, more)));
     }

@@ -25,8 +25,8 @@ use Rattle.cycle_model.proofs.CycleLemmas.{active_in, inputs_same}
 use Rattle.cycle_model.proofs.ProgressLemmas.{stream_parts}
 use Rattle.cycle_model.proofs.OutputsLemmas.{outputs_solve}
 use Rattle.node_state.specs.Streams.{followed, output_now}
-use Rattle.node_progress.specs.declared.score.Score.{Score}
-use Rattle.node_progress.specs.Standing.{port_at, comes_in, goes_out}
+use Rattle.node_progress.specs.declared.run_model.RunModel.{RunModel}
+use Rattle.node_progress.specs.Standing.{port_at, receives, goes_out}
 
 -- one number more of a range, filtered
 pub one_more : (p : ℕ → Bool) (c : ℕ) → p c ≡ true
@@ -58,12 +58,12 @@ frames_free Sink h f o same = refl
 frames_free Meter h f o same = refl
 frames_free Dummy h f o same = refl
 
-module _ (score : Score) (c n : ℕ) (e : Epoch) (at : epoch_at score.plan.value c ≡ Some e) (part : takes_part e n ≡ true) where
+module _ (run_model : RunModel) (c n : ℕ) (e : Epoch) (at : epoch_at run_model.plan.value c ≡ Some e) (part : takes_part e n ≡ true) where
   abbrev plan : Plan
-  plan = score.plan.value
+  plan = run_model.plan.value
 
   abbrev waves : List WavIn
-  waves = score.waves.value
+  waves = run_model.waves.value
 
   abbrev out : Outputs
   out = outputs plan waves
@@ -81,7 +81,7 @@ module _ (score : Score) (c n : ℕ) (e : Epoch) (at : epoch_at score.plan.value
   active = active_in plan c e n at ∙ part
 
   -- the stream of an input goes on with what is received
-  goes_on : (i : ℕ) → cond (nat_lt i (input_count kind)) (begun plan out c (port_at n i)) [] ++ comes_in score c n i
+  goes_on : (i : ℕ) → cond (nat_lt i (input_count kind)) (begun plan out c (port_at n i)) [] ++ receives run_model c n i
       ≡ cond (nat_lt i (input_count kind)) (stream_of plan out c (port_at n i)) []
   goes_on i = both (nat_lt i (input_count kind)) (begun plan out c (port_at n i)) (input_of plan out c (port_at n i))
       ∙ ap (λ s. cond (nat_lt i (input_count kind)) s [])
@@ -89,7 +89,7 @@ module _ (score : Score) (c n : ℕ) (e : Epoch) (at : epoch_at score.plan.value
       (cond-true (is_active plan c n) (input_of plan out c (port_at n i)) [] active)))
 
   -- what was received before the cycle, followed by the cycle's inputs, is what is received after it
-  pub joined : (w : List ℤ) (channels frames q : ℕ) (a b : List ℤ) → a ≡ comes_in score c n 0 → b ≡ comes_in score c n 1
+  pub joined : (w : List ℤ) (channels frames q : ℕ) (a b : List ℤ) → a ≡ receives run_model c n 0 → b ≡ receives run_model c n 1
       → followed q a b (record (kind_inputs_of w channels past) { frames = frames })
       ≡ record (kind_inputs_of w channels (received_until plan out (suc c) n)) { frames = frames + q }
   joined w channels frames q a b ea eb = parts (ap (λ x. past.a ++ x) ea ∙ goes_on 0) (ap (λ x. past.b ++ x) eb ∙ goes_on 1)
@@ -104,7 +104,7 @@ module _ (score : Score) (c n : ℕ) (e : Epoch) (at : epoch_at score.plan.value
       → last_of (plan.quantum * channels_of e.forms (port_at n (input_count kind + o)))
       (kind_output kind (kind_inputs_of (wave_of waves n) (channels_of e.forms (port_at n (input_count kind + o)))
       (received_until plan out (suc c) n)) o)
-      ≡ goes_out score c n o
+      ≡ goes_out run_model c n o
   gives renderable o =
       let p : PortId = port_at n (input_count kind + o) in
       let channels : channels_at plan c p ≡ channels_of e.forms p = ap (λ x. channels_of (listed (λ e. e.forms) x) p) at in
@@ -143,9 +143,9 @@ module _ (score : Score) (c n : ℕ) (e : Epoch) (at : epoch_at score.plan.value
   -- so what a state writes is what the output gives
   pub output_is : IsRenderable plan waves → (k : Kind) → k ≡ kind → (q : ℕ) → q ≡ plan.quantum → (f : ℕ)
       → (input_count kind ≡ 0 → f ≡ plan.quantum * active_before c) → (a b : List ℤ)
-      → a ≡ comes_in score c n 0 → b ≡ comes_in score c n 1 → (o ch m : ℕ)
+      → a ≡ receives run_model c n 0 → b ≡ receives run_model c n 1 → (o ch m : ℕ)
       → channels_of e.forms (port_at n (input_count kind + o)) ≡ ch → m ≡ plan.quantum * channels_of e.forms (port_at n (input_count kind + o))
-      → output_now k (followed q a b (record (kind_inputs_of (wave_of waves n) ch past) { frames = f })) o m ≡ goes_out score c n o
+      → output_now k (followed q a b (record (kind_inputs_of (wave_of waves n) ch past) { frames = f })) o m ≡ goes_out run_model c n o
   output_is renderable k ks q eq f ef a b ea eb o ch m ech em =
       ap (λ j. output_now j (followed q a b (record (kind_inputs_of (wave_of waves n) ch past) { frames = f })) o m) ks
       ∙ ap (λ h. output_now kind h o m) (joined (wave_of waves n) ch f q a b ea eb)

@@ -27,7 +27,7 @@ use Rattle.node_state.specs.declared.node_state.NodeState.{NodeState}
 use Rattle.node_state.specs.Slices.{AllowsChannels, left_channels}
 use Rattle.node_state.specs.StandsFor.{StandsFor, IsPrepared, IsRestarted, node_kind, node_wave_channels, node_channels, most_channels}
 use Rattle.node_state.specs.Streams.{HasItsWave, samples_of, channels_of, no_inputs, restarted}
-use Rattle.node_progress.specs.declared.score.Score.{Score}
+use Rattle.node_progress.specs.declared.run_model.RunModel.{RunModel}
 use Rattle.node_progress.specs.Standing.{port_at, read_by, worked, HasReceivedBefore}
 use Rattle.node_progress.specs.NodeStates.{first_of, wave_channels_of, IsNodeState}
 use Rattle.node_progress.specs.working.Preparing.{IsMostNamed, wav_of, IsPreparedNode}
@@ -188,13 +188,13 @@ pub answered : {X Y : Type 0} (r : Result X Y) (P Q R S T : X → Type 0) → ((
 answered (Ok x) P Q R S T all p q r s = all x p q r s
 answered (Err y) P Q R S T all p q r s = tt
 
-module _ (score : Score) (plan : Plan) (waves : List WavIn) (n : ℕ) (plan_is : score.plan.value ≡ plan) (waves_are : score.waves.value ≡ waves)
+module _ (run_model : RunModel) (plan : Plan) (waves : List WavIn) (n : ℕ) (plan_is : run_model.plan.value ≡ plan) (waves_are : run_model.waves.value ≡ waves)
     (s : NodeState) where
   pub prepared_is : (kd : Kind) (wav : Option Wav) (most quantum frames : ℕ) → kd ≡ kind_at plan n → wav ≡ wav_of waves n
       → IsMostNamed plan n most → (0 < length plan.epochs → quantum ≡ plan.quantum)
       → frames ≡ plan.quantum * worked plan n (all_cycles plan)
       → node_kind s ≡ kd → node_wave_channels s ≡ channels_of wav → IsPrepared most quantum frames s
-      → StandsFor s (no_inputs kd wav most) → IsPreparedNode score n s
+      → StandsFor s (no_inputs kd wav most) → IsPreparedNode run_model n s
   prepared_is kd wav most quantum frames kd_is wav_is most_is quantum_is frames_are kind wave numbers stands = record {
     kind = kind ∙ kd_is ∙ ap (λ (p : Plan). kind_at p n) (sym plan_is);
     wave = wave ∙ ap channels_of wav_is ∙ wave_channels waves n ∙ ap (λ ws. wave_channels_of ws n) (sym waves_are);
@@ -205,10 +205,10 @@ module _ (score : Score) (plan : Plan) (waves : List WavIn) (n : ℕ) (plan_is :
     stands = subst (λ (h : KindInputs). StandsFor s h) read stands;
   }
     where
-      samples : samples_of wav ≡ wave_of score.waves.value n
+      samples : samples_of wav ≡ wave_of run_model.waves.value n
       samples = ap samples_of wav_is ∙ wave_samples waves n ∙ ap (λ ws. wave_of ws n) (sym waves_are)
 
-      read : no_inputs kd wav most ≡ read_by score n s nothing
+      read : no_inputs kd wav most ≡ read_by run_model n s nothing
       read i = record {
         wave = samples i;
         frames = sym numbers.3 i;
@@ -228,28 +228,28 @@ first_zero plan sound = by plan.epochs sound.follow
     by (e ∷ es) h = h.0
 
 -- nothing is received before the first cycle
-module _ (score : Score) (n : ℕ) (s : NodeState) (stands : StandsFor s (read_by score n s nothing)) where
+module _ (run_model : RunModel) (n : ℕ) (s : NodeState) (stands : StandsFor s (read_by run_model n s nothing)) where
   abbrev given : Outputs
-  given = outputs score.plan.value score.waves.value
+  given = outputs run_model.plan.value run_model.waves.value
 
   abbrev has_input : ℕ → Bool
-  has_input i = nat_lt i (input_count (kind_at score.plan.value n))
+  has_input i = nat_lt i (input_count (kind_at run_model.plan.value n))
 
-  none_yet : (i : ℕ) → [] ≡ cond (has_input i) (begun score.plan.value given 0 (port_at n i)) []
-  none_yet i = sym (ap (λ l. cond (has_input i) l []) (begun_first score.plan.value given (port_at n i))
+  none_yet : (i : ℕ) → [] ≡ cond (has_input i) (begun run_model.plan.value given 0 (port_at n i)) []
+  none_yet i = sym (ap (λ l. cond (has_input i) l []) (begun_first run_model.plan.value given (port_at n i))
       ∙ cond_both (has_input i) [] [] (λ l. l ≡ []) (λ t. refl) (λ f. refl))
 
-  before_first : HasReceivedBefore score 0 n s
-  before_first = alike score n s nothing (received_before score.plan.value given 0 n) (none_yet 0) (none_yet 1) stands
+  before_first : HasReceivedBefore run_model 0 n s
+  before_first = alike run_model n s nothing (received_before run_model.plan.value given 0 n) (none_yet 0) (none_yet 1) stands
 
 none_worked : (q : ℕ) (plan : Plan) (n : ℕ) → 0 ≡ q * worked plan n 0
 none_worked q plan n = omega arith
 
-module _ (score : Score) (sound : IsSoundPlan score.plan.value) (n : ℕ) (s : NodeState) (u : IsPreparedNode score n s) where
+module _ (run_model : RunModel) (sound : IsSoundPlan run_model.plan.value) (n : ℕ) (s : NodeState) (u : IsPreparedNode run_model n s) where
   abbrev plan : Plan
-  plan = score.plan.value
+  plan = run_model.plan.value
 
-  pub begun_none : restart_of plan 0 n ≡ None → IsNodeState score 0 0 n s
+  pub begun_none : restart_of plan 0 n ≡ None → IsNodeState run_model 0 0 n s
   begun_none none = record {
     kind = u.kind;
     wave = u.wave;
@@ -259,7 +259,7 @@ module _ (score : Score) (sound : IsSoundPlan score.plan.value) (n : ℕ) (s : N
     most = u.most.bound;
     channels = λ j channels low named from some. let at : j ≡ 0 = omega (arith, low) in
         absurd (none-some channels (sym none ∙ restart_is plan sound 0 n channels (subst (λ k. Names plan k n channels) at named)));
-    begun = λ is. before_first score n s u.stands;
+    begun = λ is. before_first run_model n s u.stands;
     done = λ other. absurd (other (sym (first_zero plan sound)));
   }
 
@@ -274,7 +274,7 @@ module _ (score : Score) (sound : IsSoundPlan score.plan.value) (n : ℕ) (s : N
     first_room = u.most.bound 0 channels named
 
     pub begun_anew : (t : NodeState) → ((h : KindInputs) → StandsFor s h → StandsFor t (restarted (node_kind s) channels h))
-        → (0 < input_count (node_kind s) → node_channels t ≡ channels) → IsRestarted s t → IsNodeState score 0 0 n t
+        → (0 < input_count (node_kind s) → node_channels t ≡ channels) → IsRestarted s t → IsNodeState run_model 0 0 n t
     begun_anew t stands anew same = record {
       kind = same.0 ∙ u.kind;
       wave = same.1 ∙ u.wave;
@@ -285,7 +285,7 @@ module _ (score : Score) (sound : IsSoundPlan score.plan.value) (n : ℕ) (s : N
       channels = λ j m low other from some. let at : j ≡ 0 = omega (arith, low) in
           anew (subst (λ kd. 0 < input_count kd) (sym u.kind) some)
           ∙ same_Some channels m (sym is ∙ restart_is plan sound 0 n m (subst (λ k. Names plan k n m) at other));
-      begun = λ first. before_first score n t (subst (λ (h : KindInputs). StandsFor t h) (restarted_read score n s t nothing channels anew same)
-          (stands (read_by score n s nothing) u.stands));
+      begun = λ first. before_first run_model n t (subst (λ (h : KindInputs). StandsFor t h) (restarted_read run_model n s t nothing channels anew same)
+          (stands (read_by run_model n s nothing) u.stands));
       done = λ other. absurd (other (sym (first_zero plan sound)));
     }

@@ -37,7 +37,7 @@ use Rattle.node_state.specs.StandsFor.{StandsFor, IsRestarted, node_kind, node_w
 use Rattle.node_state.specs.Streams.{restarted, stream_kept_by}
 use Rattle.node_state.proofs.KeptLemmas.{kept_is_stream}
 use Rattle.pw_graph.specs.KindFunction.{KindInputs}
-use Rattle.node_progress.specs.declared.score.Score.{Score}
+use Rattle.node_progress.specs.declared.run_model.RunModel.{RunModel}
 use Rattle.node_progress.specs.Standing.{port_at, out_channels, read_by}
 use Rattle.node_progress.specs.NodeStates.{IsNodeState}
 use Rattle.node_progress.specs.NodeStates.{first_of}
@@ -181,22 +181,22 @@ keeps_none Meter h none = refl
 keeps_none Dummy h none = refl
 
 -- what a state has read, begun anew
-pub restarted_read : (score : Score) (n : ℕ) (s t : NodeState) (r : Received) (channels : ℕ)
+pub restarted_read : (run_model : RunModel) (n : ℕ) (s t : NodeState) (r : Received) (channels : ℕ)
     → (0 < input_count (node_kind s) → node_channels t ≡ channels) → IsRestarted s t
-    → restarted (node_kind s) channels (read_by score n s r) ≡ read_by score n t (released r)
-restarted_read score n s t r channels is same i =
-    record { wave = wave_of score.waves.value n; frames = sym same.5 i; channels = outs i; a = []; b = [] }
+    → restarted (node_kind s) channels (read_by run_model n s r) ≡ read_by run_model n t (released r)
+restarted_read run_model n s t r channels is same i =
+    record { wave = wave_of run_model.waves.value n; frames = sym same.5 i; channels = outs i; a = []; b = [] }
   where
     outs : left_channels (node_kind s) (out_channels s) channels ≡ out_channels t
     outs = channels_anew (node_kind s) (node_wave_channels s) (node_channels s) (node_channels t) channels is
         ∙ (λ i. left_channels (sym same.0 i) (sym same.1 i) (node_channels t))
 
-module _ (score : Score) (k c n : ℕ) (w : IsEndOf score k c n) where
+module _ (run_model : RunModel) (k c n : ℕ) (w : IsEndOf run_model k c n) where
   abbrev plan : Plan
-  plan = score.plan.value
+  plan = run_model.plan.value
 
   abbrev out : Outputs
-  out = outputs plan score.waves.value
+  out = outputs plan run_model.waves.value
 
   abbrev e : Epoch
   e = w.epoch
@@ -238,7 +238,7 @@ module _ (score : Score) (k c n : ℕ) (w : IsEndOf score k c n) where
         by (Some x) at = released_in x at ∙ (no_entry x.fresh n
             (sym (ap (λ o. option_map (λ (f : Fresh). f.channels) (find (λ f. f.node == n) (listed (λ y. y.fresh) o))) at) ∙ none)).0
 
-    pub stays_state : (s : NodeState) → IsNodeState score k c n s → IsNodeState score (suc k) c n s
+    pub stays_state : (s : NodeState) → IsNodeState run_model k c n s → IsNodeState run_model (suc k) c n s
     stays_state s st = record {
       kind = st.kind;
       wave = st.wave;
@@ -252,7 +252,7 @@ module _ (score : Score) (k c n : ℕ) (w : IsEndOf score k c n) where
           (λ (last : suc k ≤ j). let is : j ≡ suc k = omega (arith, last, low) in
           absurd (not_named channels (subst (λ m. Names plan m n channels) is named)))
           (cases_lt j (suc k));
-      begun = λ is. subst (λ (r : Received). StandsFor s (read_by score n s r))
+      begun = λ is. subst (λ (r : Received). StandsFor s (read_by run_model n s r))
           (sym (released_is plan out c n w.sound.follow
           ∙ cond-false (is_released plan.epochs c n) (released (received_until plan out c n)) (received_until plan out c n) stays))
           (st.done later);
@@ -303,9 +303,9 @@ module _ (score : Score) (k c n : ℕ) (w : IsEndOf score k c n) where
             ap (λ (l : List ℤ). cond (nat_lt 0 (input_count (kind_at plan n))) l []) empty
             ∙ cond_both (nat_lt 0 (input_count (kind_at plan n))) [] [] (λ l. l ≡ []) (λ t. refl) (λ f. refl)
 
-    module _ (s : NodeState) (st : IsNodeState score k c n s) where
+    module _ (s : NodeState) (st : IsNodeState run_model k c n s) where
       abbrev before : KindInputs
-      before = read_by score n s (received_until plan out c n)
+      before = read_by run_model n s (received_until plan out c n)
 
       pub stood : StandsFor s before
       stood = st.done later
@@ -318,7 +318,7 @@ module _ (score : Score) (k c n : ℕ) (w : IsEndOf score k c n) where
       )
 
       pub anew : (t : NodeState) → StandsFor t (restarted (node_kind s) n_channels before)
-          → (0 < input_count (node_kind s) → node_channels t ≡ n_channels) → IsRestarted s t → IsNodeState score (suc k) c n t
+          → (0 < input_count (node_kind s) → node_channels t ≡ n_channels) → IsRestarted s t → IsNodeState run_model (suc k) c n t
       anew t stands channels same = record {
         kind = same.0 ∙ st.kind;
         wave = same.1 ∙ st.wave;
@@ -340,6 +340,6 @@ module _ (score : Score) (k c n : ℕ) (w : IsEndOf score k c n) where
           gone = released_is plan out c n w.sound.follow
               ∙ cond-true (is_released plan.epochs c n) (released (received_until plan out c n)) (received_until plan out c n) goes
 
-          read : restarted (node_kind s) n_channels before ≡ read_by score n t (received_before plan out c n)
-          read = restarted_read score n s t (received_until plan out c n) n_channels channels same
-              ∙ ap (λ r. read_by score n t r) (sym gone)
+          read : restarted (node_kind s) n_channels before ≡ read_by run_model n t (received_before plan out c n)
+          read = restarted_read run_model n s t (received_until plan out c n) n_channels channels same
+              ∙ ap (λ r. read_by run_model n t r) (sym gone)

@@ -27,7 +27,7 @@ use Rattle.cycle_model.proofs.ExpectedLemmas.{cycle_in}
 use Rattle.cycle_model.proofs.ProgressLemmas.{filter_more, released_is}
 use Rattle.node_state.specs.declared.node_state.NodeState.{NodeState}
 use Rattle.node_state.specs.StandsFor.{StandsFor, HasFramesLeft, IsSameNode, frames_so_far, node_quantum}
-use Rattle.node_progress.specs.declared.score.Score.{Score}
+use Rattle.node_progress.specs.declared.run_model.RunModel.{RunModel}
 use Rattle.node_progress.specs.Standing.{read_by, HasReceivedBefore, HasReceivedUntil, works_in, works, worked}
 use Rattle.node_progress.specs.NodeCycles.{HasItsFrames}
 use Rattle.node_progress.specs.NodeStates.{first_of, IsNodeState, IsWorkedIn}
@@ -93,9 +93,9 @@ within_all q a b low = let d : ℕ = b - (a + 1) in let e : a + 1 + d ≡ b = om
     parts : (q a d : ℕ) → q * a + q ≤ q * (a + 1 + d)
     parts q a d = let whole : q * (a + 1 + d) ≡ q * a + q + q * d = omega arith in omega (arith, whole)
 
-module _ (score : Score) (k c n : ℕ) (w : IsWorkedIn score k c n) where
+module _ (run_model : RunModel) (k c n : ℕ) (w : IsWorkedIn run_model k c n) where
   abbrev plan : Plan
-  plan = score.plan.value
+  plan = run_model.plan.value
 
   abbrev e : Epoch
   e = w.epoch
@@ -111,8 +111,8 @@ module _ (score : Score) (k c n : ℕ) (w : IsWorkedIn score k c n) where
   first_is : first_of plan k ≡ e.shape.first
   first_is = ap (λ o. unwrap_or (option_map (λ (x : Epoch). x.shape.first) o) (all_cycles plan)) w.at
 
-  pub renderable : IsRenderable plan score.waves.value
-  renderable = sound_is_renderable plan score.waves.value w.sound w.waves
+  pub renderable : IsRenderable plan run_model.waves.value
+  renderable = sound_is_renderable plan run_model.waves.value w.sound w.waves
 
   pub part : takes_part e n ≡ true
   part = (and_parts (takes_part e n) (not (e.shape.driver == n) || _) w.works).0
@@ -123,21 +123,21 @@ module _ (score : Score) (k c n : ℕ) (w : IsWorkedIn score k c n) where
   pub worked_on : worked plan n (suc c) ≡ worked plan n c + 1
   worked_on = let one : suc c ≡ c + 1 = omega arith in ap (worked plan n) one ∙ one_more (works plan n) c works_now
 
-  module _ (s : NodeState) (st : IsNodeState score k c n s) where
+  module _ (s : NodeState) (st : IsNodeState run_model k c n s) where
     pub quantum_is : node_quantum s ≡ plan.quantum
     quantum_is = st.quantum (let low = slice_get_within plan.epochs k e w.at in omega (arith, low))
 
     -- what it stands for as the cycle begins
-    pub before : HasReceivedBefore score c n s
+    pub before : HasReceivedBefore run_model c n s
     before = ⊎_elim
         (λ (first : c ≡ e.shape.first). st.begun (first ∙ sym first_is))
         (λ (later : c ≢ e.shape.first).
-        let out = outputs plan score.waves.value in
+        let out = outputs plan run_model.waves.value in
         let low = w.from in
         let stays : is_released plan.epochs c n ≡ false = not_released 0 plan.epochs k e c n w.sound.follow w.at (omega (arith, low, later)) w.to in
         let same : received_before plan out c n ≡ received_until plan out c n = released_is plan out c n w.sound.follow
         ∙ cond-false (is_released plan.epochs c n) (released (received_until plan out c n)) (received_until plan out c n) stays in
-        subst (λ (r : Received). StandsFor s (read_by score n s r)) (sym same) (st.done (λ is. later (is ∙ first_is))))
+        subst (λ (r : Received). StandsFor s (read_by run_model n s r)) (sym same) (st.done (λ is. later (is ∙ first_is))))
         (cases_eq c e.shape.first)
 
     pub some_left : HasFramesLeft s
@@ -182,8 +182,8 @@ module _ (score : Score) (k c n : ℕ) (w : IsWorkedIn score k c n) where
         each j = by j (epoch_at plan j) refl
 
     -- the state after the cycle
-    pub state_on : (t : NodeState) → IsSameNode s t → frames_so_far t ≡ frames_so_far s + node_quantum s → HasReceivedUntil score (suc c) n t
-        → IsNodeState score k (suc c) n t
+    pub state_on : (t : NodeState) → IsSameNode s t → frames_so_far t ≡ frames_so_far s + node_quantum s → HasReceivedUntil run_model (suc c) n t
+        → IsNodeState run_model k (suc c) n t
     state_on t same on until = record {
       kind = same.0 ∙ st.kind;
       wave = same.1 ∙ st.wave;

@@ -6,17 +6,19 @@ use Rattle.cycle_model.specs.Cycle.{outputs}
 use Rattle.cycle_model.specs.Epochs.{all_cycles}
 use Rattle.cycle_model.specs.Progress.{received_until, received_before}
 use Rattle.node_state.specs.declared.node_state.NodeState.{NodeState}
-use Rattle.node_progress.specs.declared.score.Score.{Score}
+use Rattle.node_progress.specs.declared.run_model.RunModel.{RunModel}
 use Rattle.node_progress.specs.NodeStates.{first_of, IsNodeState}
 
 -- what the node n has received before the cycle c of epoch k. A cycle that begins the epoch begins
 -- after the node was released, if it is
-abbrev pub received_now : Score → ℕ → ℕ → ℕ → Received
-received_now score k c n = if c == first_of score.plan.value k
-    then received_before score.plan.value (outputs score.plan.value score.waves.value) c n
-    else received_until score.plan.value (outputs score.plan.value score.waves.value) c n
+abbrev pub received_now : RunModel → ℕ → ℕ → ℕ → Received
+received_now run_model k c n = if c == first_of run_model.plan.value k
+    then received_before run_model.plan.value
+    (outputs run_model.plan.value run_model.waves.value) c n
+    else received_until run_model.plan.value
+    (outputs run_model.plan.value run_model.waves.value) c n
 
 -- the state of the node n after all epochs
-abbrev pub IsNodeAtEnd : Score → ℕ → NodeState → Type 0
-IsNodeAtEnd score n s = IsNodeState score (length score.plan.value.epochs)
-    (all_cycles score.plan.value) n s
+abbrev pub IsNodeAtEnd : RunModel → ℕ → NodeState → Type 0
+IsNodeAtEnd run_model n s = IsNodeState run_model (length run_model.plan.value.epochs)
+    (all_cycles run_model.plan.value) n s

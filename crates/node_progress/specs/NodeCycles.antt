@@ -11,8 +11,8 @@ use Rattle.cycle_model.specs.Mixing.{takes_part}
 use Rattle.cycle_model.specs.Renderable.{IsRenderable}
 use Rattle.node_state.specs.declared.node_state.NodeState.{NodeState}
 use Rattle.node_state.specs.StandsFor.{IsQuantum, HasFramesLeft, node_kind, node_quantum, frames_so_far}
-use Rattle.node_progress.specs.declared.score.Score.{Score}
-use Rattle.node_progress.specs.Standing.{port_at, out_channels, HasReceivedBefore, comes_in}
+use Rattle.node_progress.specs.declared.run_model.RunModel.{RunModel}
+use Rattle.node_progress.specs.Standing.{port_at, out_channels, HasReceivedBefore, receives}
 
 -- the channels of an output of the node
 abbrev pub output_channels : Plan → Epoch → ℕ → ℕ → ℕ
@@ -31,23 +31,23 @@ HasItsFrames plan c n s = input_count (kind_at plan n) ≡ 0
     (filter (λ k. is_active plan k n) (range_with_len 0 c))
 
 -- the state of the node n, active in the cycle c of its epoch, stands at it
-pub record IsReadyAt (score : Score) (c n : ℕ) (s : NodeState) : Type 0 where
-  pub renderable : IsRenderable score.plan.value score.waves.value
+pub record IsReadyAt (run_model : RunModel) (c n : ℕ) (s : NodeState) : Type 0 where
+  pub renderable : IsRenderable run_model.plan.value run_model.waves.value
   pub epoch : Epoch
-  pub here : epoch_at score.plan.value c ≡ Some epoch
+  pub here : epoch_at run_model.plan.value c ≡ Some epoch
   pub active : takes_part epoch n ≡ true
-  pub kind : node_kind s ≡ kind_at score.plan.value n
-  pub quantum : node_quantum s ≡ score.plan.value.quantum
-  pub before : HasReceivedBefore score c n s
-  pub frames : HasItsFrames score.plan.value c n s
+  pub kind : node_kind s ≡ kind_at run_model.plan.value n
+  pub quantum : node_quantum s ≡ run_model.plan.value.quantum
+  pub before : HasReceivedBefore run_model c n s
+  pub frames : HasItsFrames run_model.plan.value c n s
   pub some : HasFramesLeft s
 
 -- and the rows are what its inputs get
-pub record MayProcess (score : Score) (c n : ℕ) (s : NodeState)
+pub record MayProcess (run_model : RunModel) (c n : ℕ) (s : NodeState)
     (a b left right : List ℤ) : Type 0 where
-  pub ready : IsReadyAt score c n s
+  pub ready : IsReadyAt run_model c n s
   pub slices : IsQuantum s a b left right
-  pub a_is : a ≡ comes_in score c n 0
-  pub b_is : b ≡ comes_in score c n 1
-  pub left_fits : FitsOutput score.plan.value ready.epoch n s 0 left
-  pub right_fits : FitsOutput score.plan.value ready.epoch n s 1 right
+  pub a_is : a ≡ receives run_model c n 0
+  pub b_is : b ≡ receives run_model c n 1
+  pub left_fits : FitsOutput run_model.plan.value ready.epoch n s 0 left
+  pub right_fits : FitsOutput run_model.plan.value ready.epoch n s 1 right

@@ -13,8 +13,8 @@ use Rattle.cycle_model.specs.Epochs.{all_cycles}
 use Rattle.cycle_model.specs.WavesFit.{WavesFit}
 use Rattle.node_state.specs.declared.node_state.NodeState.{NodeState}
 use Rattle.node_state.specs.StandsFor.{node_kind, node_wave_channels, node_quantum, frames_so_far, prepared_frames, node_channels, most_channels}
-use Rattle.node_progress.specs.declared.score.Score.{Score}
-use Rattle.node_progress.specs.Standing.{HasReceivedBefore, HasReceivedUntil, comes_in, works_in, worked}
+use Rattle.node_progress.specs.declared.run_model.RunModel.{RunModel}
+use Rattle.node_progress.specs.Standing.{HasReceivedBefore, HasReceivedUntil, receives, works_in, worked}
 use Rattle.node_progress.specs.NodeCycles.{output_channels}
 
 -- the first cycle of epoch k; past the last one all cycles
@@ -31,29 +31,30 @@ wave_channels_of waves n = unwrap_or
 -- works in the run, has the channels that the epoch gives its first input, and stands for what the
 -- node has received. A cycle that begins an epoch begins after the node was released, if it is. A
 -- plan without an epoch may have any quantum
-pub record IsNodeState (score : Score) (k c n : ℕ) (s : NodeState) : Type 0 where
-  pub kind : node_kind s ≡ kind_at score.plan.value n
-  pub wave : node_wave_channels s ≡ wave_channels_of score.waves.value n
-  pub quantum : 0 < length score.plan.value.epochs
-      → node_quantum s ≡ score.plan.value.quantum
-  pub frames : frames_so_far s ≡ score.plan.value.quantum * worked score.plan.value n c
+pub record IsNodeState (run_model : RunModel) (k c n : ℕ) (s : NodeState) : Type 0 where
+  pub kind : node_kind s ≡ kind_at run_model.plan.value n
+  pub wave : node_wave_channels s ≡ wave_channels_of run_model.waves.value n
+  pub quantum : 0 < length run_model.plan.value.epochs
+      → node_quantum s ≡ run_model.plan.value.quantum
+  pub frames : frames_so_far s ≡ run_model.plan.value.quantum * worked run_model.plan.value n c
   pub prepared : prepared_frames s
-      ≡ score.plan.value.quantum * worked score.plan.value n (all_cycles score.plan.value)
-  pub most : (j channels : ℕ) → Names score.plan.value j n channels
+      ≡ run_model.plan.value.quantum * worked run_model.plan.value n
+      (all_cycles run_model.plan.value)
+  pub most : (j channels : ℕ) → Names run_model.plan.value j n channels
       → channels ≤ most_channels s
-  pub channels : (j channels : ℕ) → j ≤ k → Names score.plan.value j n channels
-      → StaysFrom score.plan.value j k n → 0 < input_count (kind_at score.plan.value n)
+  pub channels : (j channels : ℕ) → j ≤ k → Names run_model.plan.value j n channels
+      → StaysFrom run_model.plan.value j k n → 0 < input_count (kind_at run_model.plan.value n)
       → node_channels s ≡ channels
-  pub begun : c ≡ first_of score.plan.value k → HasReceivedBefore score c n s
-  pub done : c ≢ first_of score.plan.value k → HasReceivedUntil score c n s
+  pub begun : c ≡ first_of run_model.plan.value k → HasReceivedBefore run_model c n s
+  pub done : c ≢ first_of run_model.plan.value k → HasReceivedUntil run_model c n s
 
 -- the node n works in the cycle c, which lies in epoch k
-pub record IsWorkedIn (score : Score) (k c n : ℕ) : Type 0 where
-  pub sound : IsSoundPlan score.plan.value
-  pub waves : WavesFit score.plan.value score.waves.value
-  pub place : n < length score.plan.value.nodes
+pub record IsWorkedIn (run_model : RunModel) (k c n : ℕ) : Type 0 where
+  pub sound : IsSoundPlan run_model.plan.value
+  pub waves : WavesFit run_model.plan.value run_model.waves.value
+  pub place : n < length run_model.plan.value.nodes
   pub epoch : Epoch
-  pub at : IsEpoch score.plan.value k epoch
+  pub at : IsEpoch run_model.plan.value k epoch
   pub from : epoch.shape.first ≤ c
   pub to : c < epoch.shape.first + epoch.shape.cycles
   pub works : works_in epoch n ≡ true
@@ -64,11 +65,11 @@ IsOutputRow plan e n o row = (length row ≡ 0) ⊎ ((o < output_count (kind_at 
     × (length row ≡ plan.quantum * output_channels plan e n o))
 
 -- ONE CYCLE of the node asks for its state, for what its inputs get, and for rows for its outputs
-pub record MayWork (score : Score) (k c n : ℕ) (s : NodeState)
+pub record MayWork (run_model : RunModel) (k c n : ℕ) (s : NodeState)
     (a b left right : List ℤ) : Type 0 where
-  pub works : IsWorkedIn score k c n
-  pub state : IsNodeState score k c n s
-  pub a_is : a ≡ comes_in score c n 0
-  pub b_is : b ≡ comes_in score c n 1
-  pub left_fits : IsOutputRow score.plan.value works.epoch n 0 left
-  pub right_fits : IsOutputRow score.plan.value works.epoch n 1 right
+  pub works : IsWorkedIn run_model k c n
+  pub state : IsNodeState run_model k c n s
+  pub a_is : a ≡ receives run_model c n 0
+  pub b_is : b ≡ receives run_model c n 1
+  pub left_fits : IsOutputRow run_model.plan.value works.epoch n 0 left
+  pub right_fits : IsOutputRow run_model.plan.value works.epoch n 1 right

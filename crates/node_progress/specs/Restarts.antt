@@ -8,7 +8,7 @@ use Rattle.pw_graph.specs.PlanFresh.{IsEpoch}
 use Rattle.pw_graph.specs.SoundPlan.{IsSoundPlan}
 use Rattle.cycle_model.specs.Epochs.{listed}
 use Rattle.cycle_model.specs.WavesFit.{WavesFit}
-use Rattle.node_progress.specs.declared.score.Score.{Score}
+use Rattle.node_progress.specs.declared.run_model.RunModel.{RunModel}
 use Rattle.node_progress.specs.NodeStates.{first_of}
 
 -- the channels with which epoch k names the node as fresh; none where it does not
@@ -21,10 +21,10 @@ abbrev pub next_first : Plan → ℕ → ℕ
 next_first plan k = first_of plan (suc k)
 
 -- epoch k ends before the cycle c
-pub record IsEndOf (score : Score) (k c n : ℕ) : Type 0 where
-  pub sound : IsSoundPlan score.plan.value
-  pub waves : WavesFit score.plan.value score.waves.value
-  pub place : n < length score.plan.value.nodes
+pub record IsEndOf (run_model : RunModel) (k c n : ℕ) : Type 0 where
+  pub sound : IsSoundPlan run_model.plan.value
+  pub waves : WavesFit run_model.plan.value run_model.waves.value
+  pub place : n < length run_model.plan.value.nodes
   pub epoch : Epoch
-  pub at : IsEpoch score.plan.value k epoch
+  pub at : IsEpoch run_model.plan.value k epoch
   pub end : c ≡ epoch.shape.first + epoch.shape.cycles

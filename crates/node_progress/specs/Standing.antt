@@ -20,7 +20,7 @@ use Rattle.cycle_model.specs.Progress.{received_until, received_before}
 use Rattle.node_state.specs.declared.node_state.NodeState.{NodeState}
 use Rattle.node_state.specs.Slices.{left_channels}
 use Rattle.node_state.specs.StandsFor.{StandsFor, node_kind, node_wave_channels, node_channels, frames_so_far}
-use Rattle.node_progress.specs.declared.score.Score.{Score}
+use Rattle.node_progress.specs.declared.run_model.RunModel.{RunModel}
 
 -- a port of a node
 abbrev pub port_at : ℕ → ℕ → PortId
@@ -32,24 +32,25 @@ out_channels s = left_channels (node_kind s) (node_wave_channels s) (node_channe
 
 -- what the state works with, where it has received this. It counts the frames itself: those of the
 -- cycles that it worked
-abbrev pub read_by : Score → ℕ → NodeState → Received → KindInputs
-read_by score n s r = record (kind_inputs_of (wave_of score.waves.value n)
+abbrev pub read_by : RunModel → ℕ → NodeState → Received → KindInputs
+read_by run_model n s r = record (kind_inputs_of (wave_of run_model.waves.value n)
     (out_channels s) r) { frames = frames_so_far s }
 
--- the state of the node n stands for what it has received as the cycle c begins, and after `cycles`
--- cycles
-abbrev pub HasReceivedBefore : Score → ℕ → ℕ → NodeState → Type 0
-HasReceivedBefore score c n s = StandsFor s (read_by score n s
-    (received_before score.plan.value (outputs score.plan.value score.waves.value) c n))
+-- the node's state stands for what it has received as the cycle c begins, or after `cycles` cycles
+abbrev pub HasReceivedBefore : RunModel → ℕ → ℕ → NodeState → Type 0
+HasReceivedBefore run_model c n s = StandsFor s (read_by run_model n s
+    (received_before run_model.plan.value (outputs run_model.plan.value run_model.waves.value) c n))
 
-abbrev pub HasReceivedUntil : Score → ℕ → ℕ → NodeState → Type 0
-HasReceivedUntil score cycles n s = StandsFor s (read_by score n s
-    (received_until score.plan.value (outputs score.plan.value score.waves.value) cycles n))
+abbrev pub HasReceivedUntil : RunModel → ℕ → ℕ → NodeState → Type 0
+HasReceivedUntil run_model cycles n s = StandsFor s (read_by run_model n s
+    (received_until run_model.plan.value (outputs run_model.plan.value run_model.waves.value)
+    cycles n))
 
 -- what an input of the node gets in the cycle c; nothing where the kind has no such input
-abbrev pub comes_in : Score → ℕ → ℕ → ℕ → List ℤ
-comes_in score c n i = if nat_lt i (input_count (kind_at score.plan.value n))
-    then input_of score.plan.value (outputs score.plan.value score.waves.value) c (port_at n i)
+abbrev pub receives : RunModel → ℕ → ℕ → ℕ → List ℤ
+receives run_model c n i = if nat_lt i (input_count (kind_at run_model.plan.value n))
+    then input_of run_model.plan.value (outputs run_model.plan.value run_model.waves.value) c
+    (port_at n i)
     else []
 
 -- how long that is
@@ -58,13 +59,13 @@ wide_at plan c n i = if nat_lt i (input_count (kind_at plan n))
     then plan.quantum * channels_at plan c (port_at n i) else 0
 
 -- what its output o gives in the cycle c
-abbrev pub goes_out : Score → ℕ → ℕ → ℕ → List ℤ
-goes_out score c n o = outputs score.plan.value score.waves.value c
-    (port_at n (input_count (kind_at score.plan.value n) + o))
+abbrev pub goes_out : RunModel → ℕ → ℕ → ℕ → List ℤ
+goes_out run_model c n o = outputs run_model.plan.value run_model.waves.value c
+    (port_at n (input_count (kind_at run_model.plan.value n) + o))
 
 -- a row that was not empty has what the output gives
-abbrev pub Gives : Score → ℕ → ℕ → ℕ → List ℤ → List ℤ → Type 0
-Gives score c n o before row = (length before ≡ 0) ⊎ (row ≡ goes_out score c n o)
+abbrev pub Gives : RunModel → ℕ → ℕ → ℕ → List ℤ → List ℤ → Type 0
+Gives run_model c n o before row = (length before ≡ 0) ⊎ (row ≡ goes_out run_model c n o)
 
 -- the node works in a cycle: it is active, and where it drives, its input has a form
 abbrev pub works_in : Epoch → ℕ → Bool

@@ -7,14 +7,14 @@
 
 mod frames;
 mod node_cycle;
+mod one_cycle;
 mod preparing;
 mod restarting;
-mod score;
-mod working;
+mod run_model;
 
 pub use frames::{takes_part, worked_cycles, works_in};
 pub use node_cycle::NodeCycle;
+pub use one_cycle::work;
 pub use preparing::prepare_node;
 pub use restarting::{enter_next, restart_in};
-pub use score::Score;
-pub use working::work;
+pub use run_model::RunModel;

@@ -9,7 +9,7 @@ ghost use Rattle.node_progress.specs.working.Preparing.{IsMostNamed, wav_of, IsP
 
 use crate::frames::worked_cycles;
 use crate::restarting::{fresh_in, restart_in};
-use crate::score::Score;
+use crate::run_model::RunModel;
 use node_state::NodeState;
 use pw_graph::Plan;
 use pw_lists::{Items, Memory, QUANTUM_LIMIT};
@@ -48,19 +48,19 @@ fn quantum_of(plan: &Plan) -> u32
 // A state with all its memory, which has received nothing.
 fn prepare_for_run(
     alloc: Global,
-    score: &Score,
+    run_model: &RunModel,
     plan: &Plan,
     waves: &Items<WavIn>,
     node: u32,
 ) -> Result<NodeState, Memory>
-    requires plan_is { score.now.plan.value ≡ plan.now }
-    requires waves_are { score.now.waves.value ≡ waves.now }
+    requires plan_is { run_model.now.plan.value ≡ plan.now }
+    requires waves_are { run_model.now.waves.value ≡ waves.now }
     requires sound { IsSoundPlan plan.now }
     requires fit { WavesFit plan.now waves.now }
     requires place { node < length plan.now.nodes }
-    ensures { IfOk result (λ s. IsPreparedNode score.now node s) }
+    ensures { IfOk result (λ s. IsPreparedNode run_model.now node s) }
 {
-    let _ = score;
+    let _ = run_model;
     let kind = &plan.nodes.as_slice()[node as usize].kind;
     let wave = wave_of(waves, node);
     let most = most_channels(plan, node);
@@ -70,13 +70,13 @@ fn prepare_for_run(
 }
 
 // Its streams begun as the first epoch says.
-fn begin_run(score: &Score, plan: &Plan, node: u32, state: &mut NodeState)
-    requires plan_is { score.now.plan.value ≡ plan.now }
+fn begin_run(run_model: &RunModel, plan: &Plan, node: u32, state: &mut NodeState)
+    requires plan_is { run_model.now.plan.value ≡ plan.now }
     requires sound { IsSoundPlan plan.now }
-    requires state { IsPreparedNode score.now node state.old }
-    ensures { IsNodeState score.now 0 0 node state.new }
+    requires state { IsPreparedNode run_model.now node state.old }
+    ensures { IsNodeState run_model.now 0 0 node state.new }
 {
-    let _ = score;
+    let _ = run_model;
     if let Some(channels) = restart_in(plan, 0, node) {
         state.restart(channels);
     }
@@ -89,19 +89,19 @@ fn begin_run(score: &Score, plan: &Plan, node: u32, state: &mut NodeState)
 /// Memory is answered only where an allocation was refused.
 pub fn prepare_node(
     alloc: Global,
-    score: &Score,
+    run_model: &RunModel,
     plan: &Plan,
     waves: &Items<WavIn>,
     node: u32,
 ) -> Result<NodeState, Memory>
-    requires plan_is { score.now.plan.value ≡ plan.now }
-    requires waves_are { score.now.waves.value ≡ waves.now }
+    requires plan_is { run_model.now.plan.value ≡ plan.now }
+    requires waves_are { run_model.now.waves.value ≡ waves.now }
     requires sound { IsSoundPlan plan.now }
     requires fit { WavesFit plan.now waves.now }
     requires place { node < length plan.now.nodes }
-    ensures { IfOk result (λ s. IsNodeState score.now 0 0 node s) }
+    ensures { IfOk result (λ s. IsNodeState run_model.now 0 0 node s) }
 {
-    let mut state = prepare_for_run(alloc, score, plan, waves, node)?;
-    begin_run(score, plan, node, &mut state);
+    let mut state = prepare_for_run(alloc, run_model, plan, waves, node)?;
+    begin_run(run_model, plan, node, &mut state);
     Ok(state)
 }

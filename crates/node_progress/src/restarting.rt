@@ -3,7 +3,7 @@ ghost use Rattle.std.specs.Prelude.{◌≡◌, ◌==◌, suc, option_map, find};
 ghost use Rattle.node_progress.specs.NodeStates.{IsNodeState};
 ghost use Rattle.node_progress.specs.Restarts.{restart_of, next_first, IsEndOf};
 
-use crate::score::Score;
+use crate::run_model::RunModel;
 use node_state::NodeState;
 use pw_graph::{Epoch, Plan};
 
@@ -30,15 +30,21 @@ pub fn restart_in(plan: &Plan, epoch: u32, node: u32) -> Option<u32>
 /// The state of a node that has done all cycles of the epoch `epoch` goes into the next one: where
 /// that epoch names the node as fresh, its stream begins anew with `restart` channels. Takes no
 /// memory; a delay writes its line over with zeros.
-pub fn enter_next(score: &Score, epoch: u32, node: u32, state: &mut NodeState, restart: Option<u32>)
-    requires ended { IsEndOf score.now epoch (next_first score.now.plan.value epoch) node }
-    requires state { IsNodeState score.now epoch (next_first score.now.plan.value epoch) node
-        state.old }
-    requires restart { restart ≡ restart_of score.now.plan.value (suc epoch) node }
-    ensures state { IsNodeState score.now (suc epoch) (next_first score.now.plan.value epoch) node
-        state.new }
+pub fn enter_next(
+    run_model: &RunModel,
+    epoch: u32,
+    node: u32,
+    state: &mut NodeState,
+    restart: Option<u32>,
+)
+    requires ended { IsEndOf run_model.now epoch (next_first run_model.now.plan.value epoch) node }
+    requires state { IsNodeState run_model.now epoch
+        (next_first run_model.now.plan.value epoch) node state.old }
+    requires restart { restart ≡ restart_of run_model.now.plan.value (suc epoch) node }
+    ensures state { IsNodeState run_model.now (suc epoch)
+        (next_first run_model.now.plan.value epoch) node state.new }
 {
-    let _ = score;
+    let _ = run_model;
     let _ = (epoch, node);
     match restart {
         Some(channels) => state.restart(channels),

@@ -4,7 +4,7 @@ use Rattle.std.specs.Prelude.{◌≡◌, ℕ, List, Result, Ok, Err}
 use Rattle.pw_lists.specs.Limits.{depth_limit}
 use Rattle.pod_codec.specs.declared.pod.Pod.{Pod}
 use Rattle.pod_codec.specs.DumpText.{dump_text_of}
-use Rattle.dump_reading.specs.Sayable.{IsSayable}
+use Rattle.dump_reading.specs.WellFormed.{IsWellFormed}
 use Rattle.pod_text.specs.declared.source.Source.{Source}
 use Rattle.pod_text.specs.declared.source.Source.TheVariants as Src
 use Rattle.pod_text.specs.declared.status.Status.{Status}
@@ -16,7 +16,7 @@ pub record IsDumpSpelled (text : List ℕ) (result : Result (List ℕ) Status)
     : Type 0 where
   pub pod : Pod
   pub dump : dump_text_of pod ≡ text
-  pub only : (other : Pod) → IsSayable depth_limit other → text ≡ dump_text_of other
+  pub only : (other : Pod) → IsWellFormed depth_limit other → text ≡ dump_text_of other
       → pod ≡ other
   pub spelled : IsSpelled pod result
 
@@ -24,7 +24,7 @@ pub record IsDumpSpelled (text : List ℕ) (result : Result (List ℕ) Status)
 abbrev pub IsDumpPod : List ℕ → Result (List ℕ) Status → Type 0
 IsDumpPod text (Ok bytes) = IsDumpSpelled text (Ok bytes)
 IsDumpPod text (Err S.TooLong) = IsDumpSpelled text (Err S.TooLong)
-IsDumpPod text (Err (S.Text line why)) = (pod : Pod) → IsSayable depth_limit pod
+IsDumpPod text (Err (S.Text line why)) = (pod : Pod) → IsWellFormed depth_limit pod
     → text ≡ dump_text_of pod → ⊥
 IsDumpPod text (Err S.Memory) = Unit {0}
 IsDumpPod text (Err status) = ⊥

@@ -8,7 +8,7 @@ use Rattle.pw_top.specs.Outside.{Outside}
 use Rattle.pw_top.specs.StatusLine.{status_number}
 use Rattle.pw_top.specs.Usage.{Words, command_of, ticks_in}
 use Rattle.fault_messages.specs.Message.{words_message}
-use Rattle.kept_output.specs.KeptOutput.{IsTied}
+use Rattle.kept_output.specs.KeptOutput.{IsGivenSince}
 use Rattle.system_files.specs.declared.unread.Unread.{Unread}
 use Rattle.system_files.specs.declared.unread.Unread.TheVariants as U
 use Rattle.system_files.specs.Unread.{unread_number}
@@ -26,8 +26,8 @@ pub record HasEnded (words : Words) (before now : Outside) (ticker : Asked) (cod
   pub asked : period_of ticker ≡ ticks_in (command_of words)
   pub cause : Caused before now status
   pub usage : IsUsage (command_of words) status
-  pub said_of : HasSaid before.held (IsTied before.given now.given) words status errors errors_now
-      said
+  pub said_of : HasSaid before.held (IsGivenSince before.given now.given) words status errors
+      errors_now said
 
 -- the word at fault, where one is no text
 abbrev pub word_in : Unread → Option ℕ

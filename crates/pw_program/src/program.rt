@@ -5,7 +5,7 @@ ghost use Rattle.pw_top.specs.Outside.{outside};
 ghost use Rattle.pw_top.specs.StatusLine.{status_number};
 ghost use Rattle.pw_top.specs.Usage.{command_of, ticks_in};
 ghost use Rattle.fault_messages.specs.Explaining.{explained};
-ghost use Rattle.kept_output.specs.KeptOutput.{IsTied};
+ghost use Rattle.kept_output.specs.KeptOutput.{IsGivenSince};
 ghost use Rattle.pw_program.specs.Asking.{period_of, checks_of};
 ghost use Rattle.pw_program.specs.Program.{shown, IsToldOf, IsSaid, HasSaid};
 
@@ -79,7 +79,7 @@ pub fn run_program<R: Threads + Wait + Sync, F: Files, O: Sink, E: Sink>(
     ensures code { result.code ≡ status_number result.status }
 
     // The sentence or the notes, with lines of the script that the run read, and by what it put.
-    ensures said { HasSaid (F.held files) (IsTied (O.given out) (O.given result.out))
+    ensures said { HasSaid (F.held files) (IsGivenSince (O.given out) (O.given result.out))
         (map string_bytes words.now) result.status (shown E.Sink errors.old)
         (shown E.Sink errors.new) result.said }
 {

@@ -5,7 +5,7 @@ ghost use Rattle.pw_top.specs.FaultCauses.{Caused, IsUsage};
 ghost use Rattle.pw_top.specs.Outside.{outside};
 ghost use Rattle.pw_top.specs.Usage.{command_of, ticks_in};
 ghost use Rattle.first_load.specs.FirstLoad.{IsReadOf};
-ghost use Rattle.kept_output.specs.KeptOutput.{IsTied};
+ghost use Rattle.kept_output.specs.KeptOutput.{IsGivenSince};
 ghost use Rattle.pw_program.specs.Asking.{period_of, checks_of};
 ghost use Rattle.pw_program.specs.Program.{IsToldOf, script_name};
 
@@ -87,7 +87,7 @@ fn run_by<R: Threads + Wait + Sync, F: Files, O: Sink, K: Begun, S: Started, T: 
     ensures usage { IsUsage (command_of (map string_bytes words.now)) result.status }
     ensures script { IsReadOf (F.held files) (script_name (map string_bytes words.now))
         result.script }
-    ensures told_text { IsTied (O.given out) (O.given result.out) result.told }
+    ensures told_text { IsGivenSince (O.given out) (O.given result.out) result.told }
 {
     let mut kept: FirstLoad<F, K> = FirstLoad::new(files);
     let mut put: KeptOutput<O, S> = KeptOutput::new(alloc, out);
@@ -125,7 +125,7 @@ fn run_nth<R: Threads + Wait + Sync, F: Files, O: Sink, K: Begun, S: Started, P:
     ensures usage { IsUsage (command_of (map string_bytes words.now)) result.0.status }
     ensures script { IsReadOf (F.held files) (script_name (map string_bytes words.now))
         result.0.script }
-    ensures told_text { IsTied (O.given out) (O.given result.0.out) result.0.told }
+    ensures told_text { IsGivenSince (O.given out) (O.given result.0.out) result.0.told }
 {
     let mut ticker: Nth<P> = Nth::new(n);
     let ran = run_by::<R, F, O, K, S, Nth<P>>(rt, alloc, words, files, out, &mut ticker);
@@ -149,7 +149,7 @@ pub(crate) fn run_kept<R: Threads + Wait + Sync, F: Files, O: Sink>(
     ensures usage { IsUsage (command_of (map string_bytes words.now)) result.0.status }
     ensures script { IsReadOf (F.held files) (script_name (map string_bytes words.now))
         result.0.script }
-    ensures told_text { IsTied (O.given out) (O.given result.0.out) result.0.told }
+    ensures told_text { IsGivenSince (O.given out) (O.given result.0.out) result.0.told }
 {
     match ticks_of(words) {
         0 => {

@@ -5,8 +5,8 @@ use Rattle.std.specs.Prelude.{ℕ, ◌≤◌, ◌+◌, ◌&&◌, Bool, true, fal
 use Rattle.ready_queues.specs.Lanes.{loops_limit}
 use Rattle.graph_script.specs.Arguments.{number_of}
 use Rattle.pw_top.specs.declared.options.Options.{Options}
-use Rattle.pw_top.specs.declared.options.Said.{Said}
-use Rattle.pw_top.specs.declared.options.Said.TheVariants.{Whole, WantsLoops, WantsTicks, Fault}
+use Rattle.pw_top.specs.declared.options.ParsedOptions.{ParsedOptions}
+use Rattle.pw_top.specs.declared.options.ParsedOptions.TheVariants.{Whole, WantsLoops, WantsTicks, Fault}
 
 abbrev pub no_options : Options
 no_options = record { loops = None; ticks = None; trace = false; steal = false }
@@ -26,7 +26,7 @@ place_after o = 2 + words_for o.loops + words_for o.ticks
     + (words_for_flag o.trace + words_for_flag o.steal)
 
 -- an option begins, which was not there before; `--trace` and `--steal` have no value
-abbrev pub begun : Options → List ℕ → Said
+abbrev pub begun : Options → List ℕ → ParsedOptions
 begun o word =
     if bytes_eq word (codes "--loops") && is_none o.loops then WantsLoops o
     else (if bytes_eq word (codes "--ticks") && is_none o.ticks then WantsTicks o
@@ -37,23 +37,23 @@ begun o word =
     else Fault (place_after o))))
 
 -- a value is read
-abbrev pub loops_given : Options → Option ℕ → Said
+abbrev pub loops_given : Options → Option ℕ → ParsedOptions
 loops_given o None = Fault (place_after o + 1)
 loops_given o (Some n) = Whole (record o { loops = Some n })
 
-abbrev pub ticks_given : Options → Option ℕ → Said
+abbrev pub ticks_given : Options → Option ℕ → ParsedOptions
 ticks_given o None = Fault (place_after o + 1)
 ticks_given o (Some n) = Whole (record o { ticks = Some n })
 
 -- one word more: a number of loops is 0 to 16, one of ticks 1 to 1,000,000
-abbrev pub said_after : Said → List ℕ → Said
-said_after (Whole o) word = begun o word
-said_after (WantsLoops o) word = loops_given o (number_of 0 loops_limit word)
-said_after (WantsTicks o) word = ticks_given o (number_of 1 1000000 word)
-said_after (Fault index) word = Fault index
+abbrev pub parsed_after : ParsedOptions → List ℕ → ParsedOptions
+parsed_after (Whole o) word = begun o word
+parsed_after (WantsLoops o) word = loops_given o (number_of 0 loops_limit word)
+parsed_after (WantsTicks o) word = ticks_given o (number_of 1 1000000 word)
+parsed_after (Fault index) word = Fault index
 
 -- at the end no value is expected
-abbrev pub options_in : Said → Result Options ℕ
+abbrev pub options_in : ParsedOptions → Result Options ℕ
 options_in (Whole o) = Ok o
 options_in (WantsLoops o) = Err (place_after o + 1)
 options_in (WantsTicks o) = Err (place_after o + 1)
@@ -61,13 +61,13 @@ options_in (Fault index) = Err index
 
 -- THE OPTIONS that words say, or the index of the first at fault
 unfoldable pub options_of : List (List ℕ) → Result Options ℕ
-options_of words = options_in (fold said_after (Whole no_options) words)
+options_of words = options_in (fold parsed_after (Whole no_options) words)
 
 -- of all that can be said, a number of loops is at most 16
 abbrev pub HasFew : Options → Type 0
 HasFew o = IfSome o.loops (λ n. n ≤ loops_limit)
 
-abbrev pub SaysFew : Said → Type 0
+abbrev pub SaysFew : ParsedOptions → Type 0
 SaysFew (Whole o) = HasFew o
 SaysFew (WantsLoops o) = HasFew o
 SaysFew (WantsTicks o) = HasFew o

@@ -2,7 +2,7 @@
 ghost use Rattle.std.specs.Prelude.{◌≡◌, ◌≤◌, map, string_bytes, IfOk};
 ghost use Rattle.ready_queues.specs.Lanes.{loops_limit};
 ghost use Rattle.graph_script.specs.Arguments.{number_of};
-ghost use Rattle.pw_top.specs.Options.{words_for, place_after, begun, loops_given, ticks_given, said_after, options_in, options_of, HasFew, SaysFew};
+ghost use Rattle.pw_top.specs.Options.{words_for, place_after, begun, loops_given, ticks_given, parsed_after, options_in, options_of, HasFew, SaysFew};
 
 use graph_script::number_within;
 
@@ -23,7 +23,7 @@ pub struct Options {
 
 // What the words so far say.
 #[derive(Clone, Copy, Drop)]
-enum Said {
+enum ParsedOptions {
     Whole(Options),
     /// The value of `--loops` is expected.
     WantsLoops(Options),
@@ -53,42 +53,42 @@ fn place_after(options: Options) -> u32
 }
 
 // An option begins that was not there before.
-fn begun(options: Options, word: &[u8]) -> Said
+fn begun(options: Options, word: &[u8]) -> ParsedOptions
     requires few { HasFew options }
     ensures is { result ≡ begun options word.now }
     ensures few { SaysFew result }
 {
     if word == b"--loops".as_slice() && options.loops.is_none() {
-        Said::WantsLoops(options)
+        ParsedOptions::WantsLoops(options)
     } else if word == b"--ticks".as_slice() && options.ticks.is_none() {
-        Said::WantsTicks(options)
+        ParsedOptions::WantsTicks(options)
     } else if word == b"--trace".as_slice() && !options.trace {
-        Said::Whole(Options {
+        ParsedOptions::Whole(Options {
             loops: options.loops,
             ticks: options.ticks,
             trace: true,
             steal: options.steal,
         })
     } else if word == b"--steal".as_slice() && !options.steal {
-        Said::Whole(Options {
+        ParsedOptions::Whole(Options {
             loops: options.loops,
             ticks: options.ticks,
             trace: options.trace,
             steal: true,
         })
     } else {
-        Said::Fault(place_after(options))
+        ParsedOptions::Fault(place_after(options))
     }
 }
 
 // The value of `--loops` is read.
-fn loops_given(options: Options, word: &[u8]) -> Said
+fn loops_given(options: Options, word: &[u8]) -> ParsedOptions
     ensures is { result ≡ loops_given options (number_of 0 loops_limit word.now) }
     ensures few { SaysFew result }
 {
     match number_within(word, 0, LOOPS_LIMIT) {
-        None => Said::Fault(place_after(options) + 1),
-        Some(loops) => Said::Whole(Options {
+        None => ParsedOptions::Fault(place_after(options) + 1),
+        Some(loops) => ParsedOptions::Whole(Options {
             loops: Some(loops),
             ticks: options.ticks,
             trace: options.trace,
@@ -98,14 +98,14 @@ fn loops_given(options: Options, word: &[u8]) -> Said
 }
 
 // The value of `--ticks` is read.
-fn ticks_given(options: Options, word: &[u8]) -> Said
+fn ticks_given(options: Options, word: &[u8]) -> ParsedOptions
     requires few { HasFew options }
     ensures is { result ≡ ticks_given options (number_of 1 1000000 word.now) }
     ensures few { SaysFew result }
 {
     match number_within(word, 1, TICKS_LIMIT) {
-        None => Said::Fault(place_after(options) + 1),
-        Some(ticks) => Said::Whole(Options {
+        None => ParsedOptions::Fault(place_after(options) + 1),
+        Some(ticks) => ParsedOptions::Whole(Options {
             loops: options.loops,
             ticks: Some(ticks),
             trace: options.trace,
@@ -115,30 +115,30 @@ fn ticks_given(options: Options, word: &[u8]) -> Said
 }
 
 // One word more.
-fn said_after(said: Said, word: &[u8]) -> Said
-    requires few { SaysFew said }
-    ensures is { result ≡ said_after said word.now }
+fn parsed_after(parsed: ParsedOptions, word: &[u8]) -> ParsedOptions
+    requires few { SaysFew parsed }
+    ensures is { result ≡ parsed_after parsed word.now }
     ensures few { SaysFew result }
 {
-    match said {
-        Said::Whole(options) => begun(options, word),
-        Said::WantsLoops(options) => loops_given(options, word),
-        Said::WantsTicks(options) => ticks_given(options, word),
-        Said::Fault(index) => Said::Fault(index),
+    match parsed {
+        ParsedOptions::Whole(options) => begun(options, word),
+        ParsedOptions::WantsLoops(options) => loops_given(options, word),
+        ParsedOptions::WantsTicks(options) => ticks_given(options, word),
+        ParsedOptions::Fault(index) => ParsedOptions::Fault(index),
     }
 }
 
 // What is said at the end, where no value is expected.
-fn options_in(said: Said) -> Result<Options, u32>
-    requires few { SaysFew said }
-    ensures is { result ≡ options_in said }
+fn options_in(parsed: ParsedOptions) -> Result<Options, u32>
+    requires few { SaysFew parsed }
+    ensures is { result ≡ options_in parsed }
     ensures few { IfOk result HasFew }
 {
-    match said {
-        Said::Whole(options) => Ok(options),
-        Said::WantsLoops(options) => Err(place_after(options) + 1),
-        Said::WantsTicks(options) => Err(place_after(options) + 1),
-        Said::Fault(index) => Err(index),
+    match parsed {
+        ParsedOptions::Whole(options) => Ok(options),
+        ParsedOptions::WantsLoops(options) => Err(place_after(options) + 1),
+        ParsedOptions::WantsTicks(options) => Err(place_after(options) + 1),
+        ParsedOptions::Fault(index) => Err(index),
     }
 }
 
@@ -148,14 +148,14 @@ pub fn read_options(words: &[String]) -> Result<Options, u32>
     ensures is { result ≡ options_of (map string_bytes words.now) }
     ensures few { IfOk result HasFew }
 {
-    let mut said = Said::Whole(Options {
+    let mut parsed = ParsedOptions::Whole(Options {
         loops: None,
         ticks: None,
         trace: false,
         steal: false,
     });
     for word in words {
-        said = said_after(said, word.as_bytes());
+        parsed = parsed_after(parsed, word.as_bytes());
     }
-    options_in(said)
+    options_in(parsed)
 }

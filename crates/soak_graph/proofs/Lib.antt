@@ -2,8 +2,8 @@ pub mod DrawLemmas
 pub mod DrawnLemmas
 pub mod LineLemmas
 pub mod NumberLemmas
+pub mod ParsedLemmas
 pub mod PortLemmas
 pub mod ReadingLemmas
-pub mod SaidLemmas
 pub mod ScriptLemmas
 pub mod SoakLineLemmas

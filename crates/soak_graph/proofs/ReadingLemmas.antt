@@ -28,23 +28,23 @@ type_in {A} {B} r = A
 abbrev pub Reading : Type 0
 Reading = type_of start
 
-abbrev pub Said : Type 0
-Said = type_in (saying C.Drain)
+abbrev pub ParsedLine : Type 0
+ParsedLine = type_in (saying C.Drain)
 
 -- a short line without a line feed, and what it says after those before it
 abbrev pub line_limit : ℕ
 line_limit = 40
 
-pub record IsSaid (reading : Reading) (line : List ℕ) (said : Said) : Type 0 where
+pub record IsParsedLine (reading : Reading) (line : List ℕ) (parsed : ParsedLine) : Type 0 where
   pub short : length line ≤ line_limit
   pub feedless : All (λ b. is_line_feed b ≡ false) line
-  pub means : meaning_of_line reading line ≡ Ok (Some said)
+  pub means : meaning_of_line reading line ≡ Ok (Some parsed)
 
-abbrev pub AreSaid : ℕ → Reading → List (List ℕ × Said) → Type 0
-AreSaid n reading [] = Unit {0}
-AreSaid n reading (p ∷ ps) = IsSaid reading p.0 p.1 × AreSaid (n + 1) (reading_after n reading (Some p.1)) ps
+abbrev pub AreParsedLines : ℕ → Reading → List (List ℕ × ParsedLine) → Type 0
+AreParsedLines n reading [] = Unit {0}
+AreParsedLines n reading (p ∷ ps) = IsParsedLine reading p.0 p.1 × AreParsedLines (n + 1) (reading_after n reading (Some p.1)) ps
 
-abbrev pub after : ℕ → Reading → List (List ℕ × Said) → Reading
+abbrev pub after : ℕ → Reading → List (List ℕ × ParsedLine) → Reading
 after n reading [] = reading
 after n reading (p ∷ ps) = after (n + 1) (reading_after n reading (Some p.1)) ps
 
@@ -53,27 +53,27 @@ unfolding meaning_of_line
 empty_means reading = refl
 
 -- THE TEXT of such lines is read as what they say
-pub reads : (n : ℕ) (reading : Reading) (ps : List (List ℕ × Said)) → AreSaid n reading ps
-    → script_from n reading (lines_of (text_of_lines (map (λ (p : List ℕ × Said). p.0) ps))) ≡ Ok (after n reading ps).script
-reads n reading [] said =
+pub reads : (n : ℕ) (reading : Reading) (ps : List (List ℕ × ParsedLine)) → AreParsedLines n reading ps
+    → script_from n reading (lines_of (text_of_lines (map (λ (p : List ℕ × ParsedLine). p.0) ps))) ≡ Ok (after n reading ps).script
+reads n reading [] parsed =
     goes_on n reading reading [] (lines_of []) [] refl (ap (reading_with n reading) (empty_means reading)) ∙ ends (n + 1) reading
-reads n reading (p ∷ ps) said =
+reads n reading (p ∷ ps) parsed =
     let next = reading_after n reading (Some p.1) in
-    let rest = text_of_lines (map (λ (q : List ℕ × Said). q.0) ps) in
-    let cut = ap lines_of (append_assoc p.0 (0x0A ∷ []) rest) ∙ slice_split_at is_line_feed p.0 0x0A rest said.0.feedless refl in
-    goes_on n reading next p.0 (lines_of ((p.0 ++ 0x0A ∷ []) ++ rest)) (lines_of rest) cut (ap (reading_with n reading) said.0.means)
-    ∙ reads (n + 1) next ps said.1
+    let rest = text_of_lines (map (λ (q : List ℕ × ParsedLine). q.0) ps) in
+    let cut = ap lines_of (append_assoc p.0 (0x0A ∷ []) rest) ∙ slice_split_at is_line_feed p.0 0x0A rest parsed.0.feedless refl in
+    goes_on n reading next p.0 (lines_of ((p.0 ++ 0x0A ∷ []) ++ rest)) (lines_of rest) cut (ap (reading_with n reading) parsed.0.means)
+    ∙ reads (n + 1) next ps parsed.1
 
 -- few short lines are a short text
-pub short_text : (n : ℕ) (reading : Reading) (ps : List (List ℕ × Said)) → AreSaid n reading ps
-    → length (text_of_lines (map (λ (p : List ℕ × Said). p.0) ps)) ≤ (line_limit + 1) * length ps
-short_text n reading [] said = omega arith
-short_text n reading (p ∷ ps) said =
-    let rest = text_of_lines (map (λ (q : List ℕ × Said). q.0) ps) in
+pub short_text : (n : ℕ) (reading : Reading) (ps : List (List ℕ × ParsedLine)) → AreParsedLines n reading ps
+    → length (text_of_lines (map (λ (p : List ℕ × ParsedLine). p.0) ps)) ≤ (line_limit + 1) * length ps
+short_text n reading [] parsed = omega arith
+short_text n reading (p ∷ ps) parsed =
+    let rest = text_of_lines (map (λ (q : List ℕ × ParsedLine). q.0) ps) in
     let line = length-append p.0 (0x0A ∷ []) in
     let whole = length-append (p.0 ++ 0x0A ∷ []) rest in
-    let more = short_text (n + 1) (reading_after n reading (Some p.1)) ps said.1 in
-    let here = said.0.short in
+    let more = short_text (n + 1) (reading_after n reading (Some p.1)) ps parsed.1 in
+    let here = parsed.0.short in
     omega arith
 
 -- a byte and a word that may be in a line, by computation
@@ -110,25 +110,25 @@ words_are (word ∷ words) e =
     let p = and_parts (is_word word) (list_all is_word words) e in
     All-cons IsWord word words (word_is word p.0) (words_are words p.1)
 
-line_means : (reading : Reading) (line : List ℕ) (said : Said) → list_all is_allowed line ≡ true → say_nothing (words_of line) ≡ false
-    → meaning_of_words reading (words_of line) ≡ Ok said → meaning_of_line reading line ≡ Ok (Some said)
+line_means : (reading : Reading) (line : List ℕ) (parsed : ParsedLine) → list_all is_allowed line ≡ true → say_nothing (words_of line) ≡ false
+    → meaning_of_words reading (words_of line) ≡ Ok parsed → meaning_of_line reading line ≡ Ok (Some parsed)
 unfolding meaning_of_line
-line_means reading line said allowed says means =
+line_means reading line parsed allowed says means =
     ap (λ b. if not b then Err W.Byte
     else (if say_nothing (words_of line) then Ok None else checked_map (λ s. Some s) (meaning_of_words reading (words_of line)))) allowed
     ∙ ap (λ b. if b then Ok None else checked_map (λ s. Some s) (meaning_of_words reading (words_of line))) says
     ∙ ap (λ r. checked_map (λ s. Some s) r) means
 
 -- a line of words, and what the words mean
-pub said_of_words : (reading : Reading) (first : List ℕ) (others : List (List ℕ)) (said : Said) → length (first ++ spaced others) ≤ line_limit
+pub parsed_of_words : (reading : Reading) (first : List ℕ) (others : List (List ℕ)) (parsed : ParsedLine) → length (first ++ spaced others) ≤ line_limit
     → IsWord first → All IsWord others → say_nothing (first ∷ others) ≡ false
-    → meaning_of_words reading (first ∷ others) ≡ Ok said → IsSaid reading (first ++ spaced others) said
-said_of_words reading first others said short h hs says means =
+    → meaning_of_words reading (first ∷ others) ≡ Ok parsed → IsParsedLine reading (first ++ spaced others) parsed
+parsed_of_words reading first others parsed short h hs says means =
     let bytes = joined_bytes first others h hs in
     let same = words_joined first others h hs in
     record {
       short = short;
       feedless = All-weaker IsLineByte (λ b. is_line_feed b ≡ false) (λ b q. q.in_line) (first ++ spaced others) bytes;
-      means = line_means reading (first ++ spaced others) said (allowed_all (first ++ spaced others) bytes)
+      means = line_means reading (first ++ spaced others) parsed (allowed_all (first ++ spaced others) bytes)
           (ap say_nothing same ∙ says) (ap (meaning_of_words reading) same ∙ means);
     }

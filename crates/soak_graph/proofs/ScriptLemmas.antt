@@ -19,34 +19,34 @@ use Rattle.soak_graph.specs.SoakChains.{chains, source_node, gain_node, delay_no
 use Rattle.soak_graph.specs.SoakText.{digit, gain_link, delay_link, mix_link, level_link, all_lines, text_of_lines, soak_text}
 use Rattle.soak_graph.specs.SoakScript.{mix_node, level_node, port, all_commands, numbered, all_names, soak_script}
 use Rattle.soak_graph.proofs.DrawnLemmas.{gain_range, delay_range, off_range}
-use Rattle.soak_graph.proofs.ReadingLemmas.{Said, AreSaid, reads, short_text}
-use Rattle.soak_graph.proofs.SaidLemmas.{made_said, plain_said, chain_said, is_read, gain_read, delay_read, IsNamed, off_read, on_read}
+use Rattle.soak_graph.proofs.ReadingLemmas.{ParsedLine, AreParsedLines, reads, short_text}
+use Rattle.soak_graph.proofs.ParsedLemmas.{made_parsed, plain_parsed, chain_parsed, is_read, gain_read, delay_read, IsNamed, off_read, on_read}
 
 -- all lines, with what they say
-abbrev ends_said : List (List ℕ × Said)
-ends_said =
-    made_said (codes "sink mix mix.wav") (C.Sink mix_node (codes "mix.wav")) (codes "mix") K.Sink
-    ∷ made_said (codes "meter level") (C.Meter level_node) (codes "level") K.Meter
-    ∷ plain_said (codes "driver mix 1") (C.Driver mix_node 1) ∷ []
+abbrev ends_parsed : List (List ℕ × ParsedLine)
+ends_parsed =
+    made_parsed (codes "sink mix mix.wav") (C.Sink mix_node (codes "mix.wav")) (codes "mix") K.Sink
+    ∷ made_parsed (codes "meter level") (C.Meter level_node) (codes "level") K.Meter
+    ∷ plain_parsed (codes "driver mix 1") (C.Driver mix_node 1) ∷ []
 
-abbrev link_said : ℕ → List (List ℕ × Said)
-link_said i =
-    plain_said (gain_link i) (C.Link (port (source_node i) 0) (port (gain_node i) 0))
-    ∷ plain_said (delay_link i) (C.Link (port (gain_node i) 1) (port (delay_node i) 0))
-    ∷ plain_said (mix_link i) (C.Link (port (delay_node i) 1) (port mix_node 0))
-    ∷ plain_said (level_link i) (C.Link (port (delay_node i) 1) (port level_node 0)) ∷ []
+abbrev link_parsed : ℕ → List (List ℕ × ParsedLine)
+link_parsed i =
+    plain_parsed (gain_link i) (C.Link (port (source_node i) 0) (port (gain_node i) 0))
+    ∷ plain_parsed (delay_link i) (C.Link (port (gain_node i) 1) (port (delay_node i) 0))
+    ∷ plain_parsed (mix_link i) (C.Link (port (delay_node i) 1) (port mix_node 0))
+    ∷ plain_parsed (level_link i) (C.Link (port (delay_node i) 1) (port level_node 0)) ∷ []
 
-abbrev play_said : ℕ → List (List ℕ × Said)
-play_said k =
-    plain_said (codes "cycles 100") (C.Cycles 100) ∷ plain_said (codes "off s" ++ digit k) (C.Off (source_node k))
-    ∷ plain_said (codes "cycles 50") (C.Cycles 50) ∷ plain_said (codes "on s" ++ digit k) (C.On (source_node k))
-    ∷ plain_said (codes "drain") C.Drain ∷ []
+abbrev play_parsed : ℕ → List (List ℕ × ParsedLine)
+play_parsed k =
+    plain_parsed (codes "cycles 100") (C.Cycles 100) ∷ plain_parsed (codes "off s" ++ digit k) (C.Off (source_node k))
+    ∷ plain_parsed (codes "cycles 50") (C.Cycles 50) ∷ plain_parsed (codes "on s" ++ digit k) (C.On (source_node k))
+    ∷ plain_parsed (codes "drain") C.Drain ∷ []
 
-abbrev all_said : (ℕ → ℤ) → (ℕ → ℕ) → ℕ → List (List ℕ × Said)
-all_said gains delays k =
-    plain_said (codes "quantum 256") (C.Quantum 256)
-    ∷ flat_map (λ i. chain_said i (gains i) (delays i)) (range_with_len 0 chains)
-    ++ ends_said ++ flat_map link_said (range_with_len 0 chains) ++ play_said k
+abbrev all_parsed : (ℕ → ℤ) → (ℕ → ℕ) → ℕ → List (List ℕ × ParsedLine)
+all_parsed gains delays k =
+    plain_parsed (codes "quantum 256") (C.Quantum 256)
+    ∷ flat_map (λ i. chain_parsed i (gains i) (delays i)) (range_with_len 0 chains)
+    ++ ends_parsed ++ flat_map link_parsed (range_with_len 0 chains) ++ play_parsed k
 
 -- the sources by their numbers
 all_named : All (IsNamed all_names) (range_with_len 0 8)
@@ -71,7 +71,7 @@ abbrev ◌▸◌ : {A B : Type 0} → A → B → A × B
 a ▸ b = (a, b)
 
 all_read : (gains : ℕ → ℤ) (delays : ℕ → ℕ) (k : ℕ) → ((i : ℕ) → (neg_ℤ (pos 256) ≤ℤ gains i) × (gains i ≤ℤ pos 256))
-    → ((i : ℕ) → delays i ≤ 1024) → k < 8 → AreSaid 1 start (all_said gains delays k)
+    → ((i : ℕ) → delays i ≤ 1024) → k < 8 → AreParsedLines 1 start (all_parsed gains delays k)
 unfolding meaning_of_line meaning_of_command node_command_called graph_command_called time_command_called
 all_read gains delays k g d below =
     is_read _ _ _ refl refl
@@ -96,26 +96,26 @@ all_read gains delays k g d below =
     ▸ tt
 
 -- THE SCRIPT that such lines are, and how long they are
-commands_read : (gains : ℕ → ℤ) (delays : ℕ → ℕ) (k : ℕ) → AreSaid 1 start (all_said gains delays k)
+commands_read : (gains : ℕ → ℤ) (delays : ℕ → ℕ) (k : ℕ) → AreParsedLines 1 start (all_parsed gains delays k)
     → script_from 1 start (lines_of (text_of_lines (all_lines gains delays k)))
     ≡ Ok (record { lines = numbered 1 (all_commands gains delays k); names = all_names })
-commands_read gains delays k said = reads 1 start (all_said gains delays k) said
+commands_read gains delays k parsed = reads 1 start (all_parsed gains delays k) parsed
 
-commands_short : (gains : ℕ → ℤ) (delays : ℕ → ℕ) (k : ℕ) → AreSaid 1 start (all_said gains delays k)
+commands_short : (gains : ℕ → ℤ) (delays : ℕ → ℕ) (k : ℕ) → AreParsedLines 1 start (all_parsed gains delays k)
     → length (text_of_lines (all_lines gains delays k)) ≤ 2665
-commands_short gains delays k said = short_text 1 start (all_said gains delays k) said
+commands_short gains delays k parsed = short_text 1 start (all_parsed gains delays k) parsed
 
-said_of : (number : ℕ) → AreSaid 1 start (all_said (gain number) (delay number) (off number))
-said_of number = all_read (gain number) (delay number) (off number) (gain_range number) (delay_range number) (off_range number)
+parsed_of : (number : ℕ) → AreParsedLines 1 start (all_parsed (gain number) (delay number) (off number))
+parsed_of number = all_read (gain number) (delay number) (off number) (gain_range number) (delay_range number) (off_range number)
 
 -- THE TEXT of a number is accepted, as its script
 pub text_is_read : (number : ℕ) → script_of (soak_text number) ≡ Ok (soak_script number)
 unfolding script_of soak_text
-text_is_read number = commands_read (gain number) (delay number) (off number) (said_of number)
+text_is_read number = commands_read (gain number) (delay number) (off number) (parsed_of number)
 
 pub text_is_short : (number : ℕ) → length (soak_text number) ≤ 2665
 unfolding soak_text
-text_is_short number = commands_short (gain number) (delay number) (off number) (said_of number)
+text_is_short number = commands_short (gain number) (delay number) (off number) (parsed_of number)
 
 -- so a result of reading it is that script, and no fault
 pub read_as : (number : ℕ) (bytes : List ℕ) (script : Script) → bytes ≡ soak_text number → script_of bytes ≡ Ok script

@@ -21,5 +21,5 @@ pub record CanDrive (boards : List Board) (ways : Ways) (own : LoopState) (drive
     (given : Way) : Type 0 where
   pub ready : IsReady boards own
   pub has : HasDrivers own
-  pub leads : AreFirstLeads own.score boards drivers
+  pub leads : AreFirstLeads own.run_model boards drivers
   pub way : IsDriverWay ways given

@@ -16,8 +16,8 @@ use Rattle.pw_graph.specs.SoundPlan.{IsSoundPlan}
 use Rattle.cycle_model.specs.Epochs.{epoch_at, listed, channels_of}
 use Rattle.cycle_model.specs.Cycle.{Outputs, outputs, brought, input_of}
 use Rattle.cycle_model.proofs.ExpectedLemmas.{cycle_in}
-use Rattle.node_progress.specs.declared.score.Score.{Score}
-use Rattle.node_progress.specs.Standing.{port_at, comes_in, goes_out}
+use Rattle.node_progress.specs.declared.run_model.RunModel.{RunModel}
+use Rattle.node_progress.specs.Standing.{port_at, receives, goes_out}
 
 -- an element that is found first, of at most one
 none_passes : {X : Type 0} (p : X → Bool) (xs : List X) → find p xs ≡ None → filter p xs ≡ []
@@ -43,13 +43,13 @@ only_passes p (x ∷ xs) y few e = ⊎_elim
 one_passes : {X : Type 0} (p : X → Bool) (xs : List X) (y : X) → count_by p xs ≤ 1 → find p xs ≡ Some y → filter p xs ≡ y ∷ []
 one_passes p xs y few e = only_passes p xs y (subst (λ m. m ≤ 1) (sym (length-filter p xs)) few) e
 
-module _ (score : Score) (sound : IsSoundPlan score.plan.value) (k n : ℕ) (e : Epoch) (at : IsEpoch score.plan.value k e)
-    (cycle : (e.shape.first ≡ k) × (e.shape.cycles ≡ 1)) (hears : 0 < input_count (kind_at score.plan.value n)) where
+module _ (run_model : RunModel) (sound : IsSoundPlan run_model.plan.value) (k n : ℕ) (e : Epoch) (at : IsEpoch run_model.plan.value k e)
+    (cycle : (e.shape.first ≡ k) × (e.shape.cycles ≡ 1)) (hears : 0 < input_count (kind_at run_model.plan.value n)) where
   abbrev plan : Plan
-  plan = score.plan.value
+  plan = run_model.plan.value
 
   abbrev out : Outputs
-  out = outputs plan score.waves.value
+  out = outputs plan run_model.waves.value
 
   here : epoch_at plan k ≡ Some e
   here = let first = cycle.0 in let one = cycle.1 in let is : e.shape.first + 0 ≡ k = omega (arith, first) in
@@ -57,7 +57,7 @@ module _ (score : Score) (sound : IsSoundPlan score.plan.value) (k n : ℕ) (e :
 
   comes_of : (m : ℕ) (rows : List (List ℤ)) → m ≡ plan.quantum * channels_of e.forms (port_at n 0)
       → map (λ l. brought plan out k l) (filter (λ x. is_same_port x.to (port_at n 0)) e.shape.links) ≡ rows
-      → map clamped (fold summed (silence m) rows) ≡ comes_in score k n 0
+      → map clamped (fold summed (silence m) rows) ≡ receives run_model k n 0
   comes_of m rows wide are = sym (cond-true (nat_lt 0 (input_count (kind_at plan n))) (input_of plan out k (port_at n 0)) []
       (lt-ltb 0 (input_count (kind_at plan n)) hears)
       ∙ ap (λ o. map clamped (fold summed (silence (plan.quantum * channels_of (listed (λ x. x.forms) o) (port_at n 0)))
@@ -65,15 +65,15 @@ module _ (score : Score) (sound : IsSoundPlan score.plan.value) (k n : ℕ) (e :
       ∙ (λ i. map clamped (fold summed (silence (sym wide i)) (are i))))
 
   pub comes_silent : (m : ℕ) → m ≡ plan.quantum * channels_of e.forms (port_at n 0)
-      → find (λ x. is_same_port x.to (port_at n 0)) e.shape.links ≡ None → map clamped (silence m) ≡ comes_in score k n 0
+      → find (λ x. is_same_port x.to (port_at n 0)) e.shape.links ≡ None → map clamped (silence m) ≡ receives run_model k n 0
   comes_silent m wide none = comes_of m [] wide
       (ap (map (λ l. brought plan out k l)) (none_passes (λ x. is_same_port x.to (port_at n 0)) e.shape.links none))
 
   pub comes_alone : (m : ℕ) (row : List ℤ) (l : ShapeLink) (from : ℕ) → m ≡ plan.quantum * channels_of e.forms (port_at n 0)
       → count_by (λ x. is_same_port x.to (port_at n 0)) e.shape.links ≤ 1
       → find (λ x. is_same_port x.to (port_at n 0)) e.shape.links ≡ Some l
-      → l.from ≡ port_at from (input_count (kind_at plan from)) → l.delayed ≡ false → row ≡ goes_out score k from 0
-      → map clamped (summed (silence m) row) ≡ comes_in score k n 0
+      → l.from ≡ port_at from (input_count (kind_at plan from)) → l.delayed ≡ false → row ≡ goes_out run_model k from 0
+      → map clamped (summed (silence m) row) ≡ receives run_model k n 0
   comes_alone m row l from wide few some port prompt is = comes_of m (row ∷ []) wide
       (ap (map (λ l. brought plan out k l)) (one_passes (λ x. is_same_port x.to (port_at n 0)) e.shape.links l few some)
       ∙ ap (λ r. r ∷ []) (cond-false l.delayed _ (out k l.from) prompt ∙ ap (out k) port

@@ -8,12 +8,12 @@ ghost use Rattle.pw_graph.specs.Pools.{is_same_port};
 ghost use Rattle.pw_lists.specs.Samples.{clamped, silence, summed};
 ghost use Rattle.cycle_model.specs.Epochs.{channels_of};
 ghost use Rattle.node_progress.specs.NodeStates.{IsNodeState, IsOutputRow};
-ghost use Rattle.node_progress.specs.Standing.{comes_in, goes_out, Gives, works_in};
+ghost use Rattle.node_progress.specs.Standing.{receives, goes_out, Gives, works_in};
 ghost use Rattle.state_tests.specs.Chain.{IsChain, IsCycleOf};
 
 use cycle_model::waves_fit;
 use graph_checks::is_sound_plan;
-use node_progress::{NodeCycle, Score, enter_next, prepare_node, restart_in, work, works_in};
+use node_progress::{NodeCycle, RunModel, enter_next, prepare_node, restart_in, work, works_in};
 use node_state::NodeState;
 use pw_graph::{Epoch, Plan, PortId, ShapeLink, is_same_port};
 use pw_lists::Items;
@@ -139,7 +139,7 @@ fn alone(row: &[i16], to: &mut [i16]) -> bool
 // What the first input of a node receives, over no link or over one of the node `from`, which gave
 // this row if it worked.
 fn comes(
-    score: &Score,
+    run_model: &RunModel,
     plan: &Plan,
     at: &Epoch,
     epoch: u32,
@@ -148,11 +148,11 @@ fn comes(
     row: Option<&[i16]>,
     to: &mut [i16],
 ) -> bool
-    requires cycle { IsCycleOf score.now plan.now epoch at.now }
-    requires row { IfSome row (λ r. r.now ≡ goes_out score.now epoch from 0) }
-    ensures { IsTrue result → to.new ≡ comes_in score.now epoch node 0 }
+    requires cycle { IsCycleOf run_model.now plan.now epoch at.now }
+    requires row { IfSome row (λ r. r.now ≡ goes_out run_model.now epoch from 0) }
+    ensures { IsTrue result → to.new ≡ receives run_model.now epoch node 0 }
 {
-    let _ = score;
+    let _ = run_model;
     let _ = epoch;
     let port = PortId { node, port: 0 };
     let output = PortId {
@@ -180,7 +180,7 @@ fn comes(
 
 // A node in its epoch: whether it works there; None where its rows are not such as the plan asks.
 fn pass(
-    score: &Score,
+    run_model: &RunModel,
     plan: &Plan,
     at: &Epoch,
     epoch: u32,
@@ -189,12 +189,14 @@ fn pass(
     a: &[i16],
     left: &mut [i16],
 ) -> Option<bool>
-    requires cycle { IsCycleOf score.now plan.now epoch at.now }
-    requires place { node < length score.now.plan.value.nodes }
-    requires state { IsNodeState score.now epoch epoch node state.old }
-    requires a { works_in at.now node ≡ true → a.now ≡ comes_in score.now epoch node 0 }
-    ensures state { IfSome result (λ w. IsNodeState score.now epoch (suc epoch) node state.new) }
-    ensures left { IfSome result (λ w. w ≡ true → Gives score.now epoch node 0 left.old left.new) }
+    requires cycle { IsCycleOf run_model.now plan.now epoch at.now }
+    requires place { node < length run_model.now.plan.value.nodes }
+    requires state { IsNodeState run_model.now epoch epoch node state.old }
+    requires a { works_in at.now node ≡ true → a.now ≡ receives run_model.now epoch node 0 }
+    ensures state { IfSome result
+        (λ w. IsNodeState run_model.now epoch (suc epoch) node state.new) }
+    ensures left { IfSome result
+        (λ w. w ≡ true → Gives run_model.now epoch node 0 left.old left.new) }
 {
     if !works_in(at, node) {
         return Some(false);
@@ -209,13 +211,13 @@ fn pass(
         a,
         b: &[],
     };
-    work(score, &cycle, state, left, &mut []);
+    work(run_model, &cycle, state, left, &mut []);
     Some(true)
 }
 
 // The same, and on into the next epoch.
 fn step(
-    score: &Score,
+    run_model: &RunModel,
     plan: &Plan,
     at: &Epoch,
     epoch: u32,
@@ -224,17 +226,18 @@ fn step(
     a: &[i16],
     left: &mut [i16],
 ) -> Option<bool>
-    requires cycle { IsCycleOf score.now plan.now epoch at.now }
-    requires place { node < length score.now.plan.value.nodes }
-    requires state { IsNodeState score.now epoch epoch node state.old }
-    requires a { works_in at.now node ≡ true → a.now ≡ comes_in score.now epoch node 0 }
+    requires cycle { IsCycleOf run_model.now plan.now epoch at.now }
+    requires place { node < length run_model.now.plan.value.nodes }
+    requires state { IsNodeState run_model.now epoch epoch node state.old }
+    requires a { works_in at.now node ≡ true → a.now ≡ receives run_model.now epoch node 0 }
     ensures state { IfSome result
-        (λ w. IsNodeState score.now (suc epoch) (suc epoch) node state.new) }
-    ensures left { IfSome result (λ w. w ≡ true → Gives score.now epoch node 0 left.old left.new) }
+        (λ w. IsNodeState run_model.now (suc epoch) (suc epoch) node state.new) }
+    ensures left { IfSome result
+        (λ w. w ≡ true → Gives run_model.now epoch node 0 left.old left.new) }
 {
     let next = epoch.checked_add(1)?;
-    let worked = pass(score, plan, at, epoch, node, state, a, left)?;
-    enter_next(score, epoch, node, state, restart_in(plan, next, node));
+    let worked = pass(run_model, plan, at, epoch, node, state, a, left)?;
+    enter_next(run_model, epoch, node, state, restart_in(plan, next, node));
     Some(worked)
 }
 
@@ -247,7 +250,7 @@ fn given(gave: bool, row: &[i16]) -> Option<&[i16]>
 
 // A node without an input in its epoch.
 fn begin(
-    score: &Score,
+    run_model: &RunModel,
     plan: &Plan,
     at: &Epoch,
     epoch: u32,
@@ -255,22 +258,23 @@ fn begin(
     state: &mut NodeState,
     left: &mut [i16],
 ) -> Option<bool>
-    requires cycle { IsCycleOf score.now plan.now epoch at.now }
-    requires place { node < length score.now.plan.value.nodes }
-    requires state { IsNodeState score.now epoch epoch node state.old }
+    requires cycle { IsCycleOf run_model.now plan.now epoch at.now }
+    requires place { node < length run_model.now.plan.value.nodes }
+    requires state { IsNodeState run_model.now epoch epoch node state.old }
     ensures state { IfSome result
-        (λ w. IsNodeState score.now (suc epoch) (suc epoch) node state.new) }
-    ensures left { IfSome result (λ w. w ≡ true → Gives score.now epoch node 0 left.old left.new) }
+        (λ w. IsNodeState run_model.now (suc epoch) (suc epoch) node state.new) }
+    ensures left { IfSome result
+        (λ w. w ≡ true → Gives run_model.now epoch node 0 left.old left.new) }
 {
     if inputs_of(plan, node) > 0 {
         return None;
     }
-    step(score, plan, at, epoch, node, state, &[], left)
+    step(run_model, plan, at, epoch, node, state, &[], left)
 }
 
 // A node after the node `from`, which gave this row if it worked.
 fn follow(
-    score: &Score,
+    run_model: &RunModel,
     plan: &Plan,
     at: &Epoch,
     epoch: u32,
@@ -280,50 +284,53 @@ fn follow(
     state: &mut NodeState,
     left: &mut [i16],
 ) -> Option<bool>
-    requires cycle { IsCycleOf score.now plan.now epoch at.now }
-    requires place { node < length score.now.plan.value.nodes }
-    requires row { IfSome row (λ r. r.now ≡ goes_out score.now epoch from 0) }
-    requires state { IsNodeState score.now epoch epoch node state.old }
+    requires cycle { IsCycleOf run_model.now plan.now epoch at.now }
+    requires place { node < length run_model.now.plan.value.nodes }
+    requires row { IfSome row (λ r. r.now ≡ goes_out run_model.now epoch from 0) }
+    requires state { IsNodeState run_model.now epoch epoch node state.old }
     ensures state { IfSome result
-        (λ w. IsNodeState score.now (suc epoch) (suc epoch) node state.new) }
-    ensures left { IfSome result (λ w. w ≡ true → Gives score.now epoch node 0 left.old left.new) }
+        (λ w. IsNodeState run_model.now (suc epoch) (suc epoch) node state.new) }
+    ensures left { IfSome result
+        (λ w. w ≡ true → Gives run_model.now epoch node 0 left.old left.new) }
 {
     let mut input = [0i16; WIDTH];
     let a = input.as_mut_slice();
-    if works_in(at, node) && !comes(score, plan, at, epoch, node, from, row, a) {
+    if works_in(at, node) && !comes(run_model, plan, at, epoch, node, from, row, a) {
         return None;
     }
-    step(score, plan, at, epoch, node, state, a, left)
+    step(run_model, plan, at, epoch, node, state, a, left)
 }
 
 // The whole epoch.
 fn through(
-    score: &Score,
+    run_model: &RunModel,
     plan: &Plan,
     epoch: u32,
     source: &mut NodeState,
     between: &mut NodeState,
     sink: &mut NodeState,
 ) -> bool
-    requires chain { IsChain score.now plan.now }
-    requires source { IsNodeState score.now epoch epoch 0 source.old }
-    requires between { IsNodeState score.now epoch epoch 1 between.old }
-    requires sink { IsNodeState score.now epoch epoch 2 sink.old }
-    ensures source { IsTrue result → IsNodeState score.now (suc epoch) (suc epoch) 0 source.new }
-    ensures between { IsTrue result → IsNodeState score.now (suc epoch) (suc epoch) 1 between.new }
-    ensures sink { IsTrue result → IsNodeState score.now (suc epoch) (suc epoch) 2 sink.new }
+    requires chain { IsChain run_model.now plan.now }
+    requires source { IsNodeState run_model.now epoch epoch 0 source.old }
+    requires between { IsNodeState run_model.now epoch epoch 1 between.old }
+    requires sink { IsNodeState run_model.now epoch epoch 2 sink.old }
+    ensures source { IsTrue result
+        → IsNodeState run_model.now (suc epoch) (suc epoch) 0 source.new }
+    ensures between { IsTrue result
+        → IsNodeState run_model.now (suc epoch) (suc epoch) 1 between.new }
+    ensures sink { IsTrue result → IsNodeState run_model.now (suc epoch) (suc epoch) 2 sink.new }
 {
     let Some(at) = one_cycle(plan, epoch) else {
         return false;
     };
     let mut first = [0i16; WIDTH];
     let mut second = [0i16; WIDTH];
-    let Some(gave) = begin(score, plan, at, epoch, 0, source, first.as_mut_slice()) else {
+    let Some(gave) = begin(run_model, plan, at, epoch, 0, source, first.as_mut_slice()) else {
         return false;
     };
     let row = given(gave, first.as_slice());
     let Some(gave) = follow(
-        score,
+        run_model,
         plan,
         at,
         epoch,
@@ -336,25 +343,25 @@ fn through(
         return false;
     };
     let row = given(gave, second.as_slice());
-    follow(score, plan, at, epoch, 2, 1, row, sink, &mut []).is_some()
+    follow(run_model, plan, at, epoch, 2, 1, row, sink, &mut []).is_some()
 }
 
 // `epochs` epochs, from the first one on.
 fn through_all(
-    score: &Score,
+    run_model: &RunModel,
     plan: &Plan,
     epochs: u32,
     source: &mut NodeState,
     between: &mut NodeState,
     sink: &mut NodeState,
 ) -> bool
-    requires chain { IsChain score.now plan.now }
-    requires source { IsNodeState score.now 0 0 0 source.old }
-    requires between { IsNodeState score.now 0 0 1 between.old }
-    requires sink { IsNodeState score.now 0 0 2 sink.old }
+    requires chain { IsChain run_model.now plan.now }
+    requires source { IsNodeState run_model.now 0 0 0 source.old }
+    requires between { IsNodeState run_model.now 0 0 1 between.old }
+    requires sink { IsNodeState run_model.now 0 0 2 sink.old }
 {
     for epoch in 0..epochs {
-        if !through(score, plan, epoch, source, between, sink) {
+        if !through(run_model, plan, epoch, source, between, sink) {
             return false;
         }
     }
@@ -364,25 +371,32 @@ fn through_all(
 // The same from the plan's nodes on: whether the sink has kept these samples.
 fn chain_keeps(
     alloc: Global,
-    score: &Score,
+    run_model: &RunModel,
     plan: &Plan,
     waves: &Items<WavIn>,
     epochs: u32,
     wanted: &[i16],
 ) -> bool
-    requires chain { IsChain score.now plan.now }
-    requires waves_are { score.now.waves.value ≡ waves.now }
+    requires chain { IsChain run_model.now plan.now }
+    requires waves_are { run_model.now.waves.value ≡ waves.now }
 {
-    let Ok(mut source) = prepare_node(alloc, score, plan, waves, 0) else {
+    let Ok(mut source) = prepare_node(alloc, run_model, plan, waves, 0) else {
         return false;
     };
-    let Ok(mut between) = prepare_node(alloc, score, plan, waves, 1) else {
+    let Ok(mut between) = prepare_node(alloc, run_model, plan, waves, 1) else {
         return false;
     };
-    let Ok(mut sink) = prepare_node(alloc, score, plan, waves, 2) else {
+    let Ok(mut sink) = prepare_node(alloc, run_model, plan, waves, 2) else {
         return false;
     };
-    through_all(score, plan, epochs, &mut source, &mut between, &mut sink) && sink.kept() == wanted
+    through_all(
+        run_model,
+        plan,
+        epochs,
+        &mut source,
+        &mut between,
+        &mut sink,
+    ) && sink.kept() == wanted
 }
 
 /// Whether the sink keeps these samples after `epochs` epochs. False also where the plan is not
@@ -397,6 +411,6 @@ pub fn keeps(
     if !is_sound_plan(plan) || plan.nodes.len() != 3 || !waves_fit(plan, waves) {
         return false;
     }
-    let score = Score::of(plan, waves);
-    chain_keeps(alloc, &score, plan, waves, epochs, wanted)
+    let run_model = RunModel::of(plan, waves);
+    chain_keeps(alloc, &run_model, plan, waves, epochs, wanted)
 }

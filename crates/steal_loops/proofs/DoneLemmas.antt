@@ -8,7 +8,7 @@ use Rattle.std.proofs.lemmas.Option.{get_or_from_slice_get}
 use Rattle.pw_lists.specs.Listed.{Listed}
 use Rattle.pw_graph.specs.declared.plan.Plan.{Plan}
 use Rattle.wav_files.specs.declared.wav.WavIn.{WavIn}
-use Rattle.node_progress.specs.declared.score.Score.{Score}
+use Rattle.node_progress.specs.declared.run_model.RunModel.{RunModel}
 use Rattle.data_loop.specs.declared.loop_state.LoopState.{LoopState}
 use Rattle.data_loop.specs.Loops.{plan_of}
 use Rattle.graph_run.specs.Outcomes.{IsDoneOf, HasNodeAt, AreDone}
@@ -40,20 +40,20 @@ one_collected shared n old new s h is end = let m = h.count in let long = ap (λ
     }
 
 -- ALL in the end
-module _ (shared : Shared) (cells : AreCells shared) (own end : LoopState) (plan_is : plan_of own ≡ shared.score.plan.value)
-    (waves_are : own.score.waves.value ≡ shared.score.waves.value) (ran : HasRun own end) (xs : List LoopState)
+module _ (shared : Shared) (cells : AreCells shared) (own end : LoopState) (plan_is : plan_of own ≡ shared.run_model.plan.value)
+    (waves_are : own.run_model.waves.value ≡ shared.run_model.waves.value) (ran : HasRun own end) (xs : List LoopState)
     (got : AreCollected shared (length (cells_of shared.shelf)) xs) where
   abbrev plan : Plan
-  plan = shared.score.plan.value
+  plan = shared.run_model.plan.value
 
   abbrev waves : List WavIn
-  waves = shared.score.waves.value
+  waves = shared.run_model.waves.value
 
   one_done : (i : ℕ) (s : LoopState) → IsFinished shared i s → IsDoneOf plan waves s
   one_done i s f = let c = cells.each i f.cell f.there in record {
     done = f.done;
-    plan_is = ap (λ (x : Score). x.plan.value) f.same.score ∙ c.plan_is;
-    waves_are = ap (λ (x : Score). x.waves.value) f.same.score ∙ c.waves_are;
+    plan_is = ap (λ (x : RunModel). x.plan.value) f.same.run_model ∙ c.plan_is;
+    waves_are = ap (λ (x : RunModel). x.waves.value) f.same.run_model ∙ c.waves_are;
   }
 
   all_done : All (IsDoneOf plan waves) (xs ++ end ∷ [])
@@ -61,8 +61,8 @@ module _ (shared : Shared) (cells : AreCells shared) (own end : LoopState) (plan
       (λ i d low. let n = got.count in one_done i (get_or xs i d) (got.each i d (omega (arith, low, n))))
       record {
         done = ran.done;
-        plan_is = ap (λ (x : Score). x.plan.value) ran.same.score ∙ plan_is;
-        waves_are = ap (λ (x : Score). x.waves.value) ran.same.score ∙ waves_are;
+        plan_is = ap (λ (x : RunModel). x.plan.value) ran.same.run_model ∙ plan_is;
+        waves_are = ap (λ (x : RunModel). x.waves.value) ran.same.run_model ∙ waves_are;
       }
 
   has_node : (n : ℕ) → HasNode own (cells_of shared.shelf) n → (i : ℕ) × HasNodeAt (xs ++ end ∷ []) n i
@@ -110,5 +110,5 @@ module _ (plan : Plan) (waves : List WavIn) (loops : ℕ) (p : Prepared) (is : I
     room = (let n = is.cells.count in omega (arith, n, spare));
   }
 
-  pub done_of : (done : List LoopState) → AreDone p.shared.score.plan.value p.shared.score.waves.value done → AreDone plan waves done
+  pub done_of : (done : List LoopState) → AreDone p.shared.run_model.plan.value p.shared.run_model.waves.value done → AreDone plan waves done
   done_of done h = subst (λ (x : Plan × List WavIn). AreDone x.0 x.1 done) (λ j. (is.plan_is j, is.waves_are j)) h

@@ -1,6 +1,6 @@
+pub mod ClaimantLemmas
 pub mod DoneLemmas
 pub mod OneNodeLemmas
 pub mod PrepareLemmas
 pub mod SendLemmas
 pub mod StepLemmas
-pub mod TakerLemmas

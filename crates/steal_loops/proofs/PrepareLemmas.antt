@@ -26,10 +26,10 @@ use Rattle.steal_shelf.specs.NewShelf.{IsFirstCell, AreOfOneRun}
 use Rattle.steal_shelf.specs.Seats.{cells_of, IsSeatOf}
 use Rattle.steal_loops.specs.declared.opening.Opened.{Opened}
 use Rattle.steal_loops.specs.declared.shared.Shared.{Shared}
-use Rattle.steal_loops.specs.declared.taker.Taker.{Taker}
+use Rattle.steal_loops.specs.declared.claimant.Claimant.{Claimant}
 use Rattle.steal_loops.specs.working.Cells.{IsCellFor, AreCells}
 use Rattle.steal_loops.specs.working.Crews.{IsOpened, CanDrive, HasNode}
-use Rattle.steal_loops.specs.working.Takers.{IsTaker, IsWorker, IsDriverTaker, IsWorkersWay}
+use Rattle.steal_loops.specs.working.Claimants.{IsClaimant, IsWorker, IsDriverClaimant, IsWorkersWay}
 use Rattle.steal_loops.proofs.OneNodeLemmas.{one_node}
 
 -- all ways of the workers
@@ -109,9 +109,9 @@ module _ (plan : Plan) (waves : List WavIn) (o : Opened) (opened : IsOpened plan
       (cases_lt (f n) cells)
 
 -- what a thread takes cells with, in the beginning
-pub new_taker : (shared : Shared) → AreCells shared → (t : Taker) → IsSeatOf shared.shelf t.seat → IsWayOf shared.ways t.way
-    → t.ended.items ≡ replicate shared.seating.loops false → IsTaker shared t
-new_taker shared cells t seat answered none = let n = cells.count in let long = length-replicate shared.seating.loops false in
+pub new_claimant : (shared : Shared) → AreCells shared → (t : Claimant) → IsSeatOf shared.shelf t.seat → IsWayOf shared.ways t.way
+    → t.ended.items ≡ replicate shared.seating.loops false → IsClaimant shared t
+new_claimant shared cells t seat answered none = let n = cells.count in let long = length-replicate shared.seating.loops false in
     let flags = ap (λ (l : List Bool). length l) none in record {
       seat = seat;
       answered = answered;
@@ -120,13 +120,13 @@ new_taker shared cells t seat answered none = let n = cells.count in let long = 
           ∙ (ap (λ (l : List Bool). get_or l i d) none ∙ get_or-replicate shared.seating.loops i false d (omega (arith, low, n)))));
     }
 
-pub new_worker : (shared : Shared) → AreCells shared → (t : Taker) → IsSeatOf shared.shelf t.seat → IsWorkersWay shared.ways t.way
+pub new_worker : (shared : Shared) → AreCells shared → (t : Claimant) → IsSeatOf shared.shelf t.seat → IsWorkersWay shared.ways t.way
     → t.ended.items ≡ replicate shared.seating.loops false → IsWorker shared t
-new_worker shared cells t seat way none = (new_taker shared cells t seat way.0 none, way.1)
+new_worker shared cells t seat way none = (new_claimant shared cells t seat way.0 none, way.1)
 
 -- THE CELLS on the shelf, and the driver's thread
 module _ (plan : Plan) (waves : List WavIn) (o : Opened) (opened : IsOpened plan waves o) (shared : Shared) (boards_are : shared.boards ≡ o.boards)
-    (plan_is : shared.score.plan.value ≡ plan) (waves_are : shared.score.waves.value ≡ waves) where
+    (plan_is : shared.run_model.plan.value ≡ plan) (waves_are : shared.run_model.waves.value ≡ waves) where
   cell_for : (i : ℕ) (d : LoopState) → i < length o.cells → IsCellFor shared (get_or o.cells i d)
   cell_for i d low = let n = cell_count plan in
       let r = subst (λ (l : List Board). IsReady l (get_or o.cells i d)) (sym boards_are) (others_ready o.boards n o.cells o.own opened.ready i d low) in
@@ -150,12 +150,12 @@ module _ (plan : Plan) (waves : List WavIn) (o : Opened) (opened : IsOpened plan
     few = omega (arith, loops, few);
   }
 
-  pub drives : (taker : Taker) → IsDriverTaker shared taker → CanDrive shared (record { own = o.own; drivers = o.drivers; taker = taker })
-  drives taker is = let n = cell_count plan in let mine = own_is o.boards n o.cells o.own opened.ready plan waves (cell_number plan) opened.rows opened.are in record {
+  pub drives : (claimant : Claimant) → IsDriverClaimant shared claimant → CanDrive shared (record { own = o.own; drivers = o.drivers; claimant = claimant })
+  drives claimant is = let n = cell_count plan in let mine = own_is o.boards n o.cells o.own opened.ready plan waves (cell_number plan) opened.rows opened.are in record {
     ready = subst (λ (l : List Board). IsReady l o.own) (sym boards_are) (own_ready o.boards n o.cells o.own opened.ready);
     has = own_has o.boards n o.cells o.own opened.ready;
-    leads = subst (λ (l : List Board). AreFirstLeads o.own.score l o.drivers) (sym boards_are) (opened.leads o.own.score mine.plan_is mine.waves_are);
-    taker = is;
+    leads = subst (λ (l : List Board). AreFirstLeads o.own.run_model l o.drivers) (sym boards_are) (opened.leads o.own.run_model mine.plan_is mine.waves_are);
+    claimant = is;
     plan_is = mine.plan_is ∙ sym plan_is;
     waves_are = mine.waves_are ∙ sym waves_are;
   }

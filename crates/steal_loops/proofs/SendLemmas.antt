@@ -14,7 +14,7 @@ use Rattle.steal_shelf.specs.contracts.shelf.ShelfSeat as shelf_seat_row
 use Rattle.steal_shelf.specs.contracts.token.Token as token_row
 use Rattle.steal_loops.specs.contracts.shared.Shared as shared_row
 use Rattle.steal_loops.specs.contracts.signs.Signs as signs_row
-use Rattle.steal_loops.specs.contracts.taker.Taker as taker_row
+use Rattle.steal_loops.specs.contracts.claimant.Claimant as claimant_row
 
 ruleset crossing = (sendable, crosses, heap.the_send, heap.the_sync, token.the_send, words.the_send, words.the_sync, lease.the_send, lease.the_sync)
 
@@ -27,8 +27,8 @@ seat_field = search (crossing, token_send) depth 30 fits 50000
 way_field : IsSend way_row.the_field.row
 way_field = search (crossing, end_send) depth 30 fits 50000
 
-pub taker_send : IsSend taker_row.the_row
-taker_send = let a : IsSend shelf_seat_row.the_field.row = seat_field in let b : IsSend way_row.the_field.row = way_field in
+pub claimant_send : IsSend claimant_row.the_row
+claimant_send = let a : IsSend shelf_seat_row.the_field.row = seat_field in let b : IsSend way_row.the_field.row = way_field in
     search crossing depth 30 fits 50000
 
 shelf_field : IsSync shelf_row.the_field.row

@@ -2,10 +2,10 @@
 //! which leads and then takes the cells.
 ghost use Rattle.std.specs.Prelude.{◌≡◌};
 
+use crate::claimant::Claimant;
 use crate::collecting::collect_all;
 use crate::leading::{Driving, drive};
 use crate::shared::Shared;
-use crate::taker::Taker;
 use crate::workers::run_worker;
 use board_rule::DriverSeat;
 use crew_run::{Crew, Work};
@@ -31,28 +31,28 @@ pub(crate) struct EndedCells {
     pub taken: u64,
 }
 
-impl Work<Taker, u64> for Shared {
+impl Work<Claimant, u64> for Shared {
     ghost use Rattle.std.specs.Prelude.{⊤};
     ghost use Rattle.steal_loops.specs.working.CrewRun.{CanStart};
 
-    ghost number_of = { λ taker. taker.way.number };
+    ghost number_of = { λ claimant. claimant.way.number };
 
     ghost can_start = { CanStart };
 
     ghost has_run = { λ _ _. ⊤ };
 
-    fn number(member: &Taker) -> u32 {
+    fn number(member: &Claimant) -> u32 {
         member.way.number()
     }
 
     // All that a worker does: how many numbers it took out of its queue.
-    fn work<R: Wait, G: Gate>(&self, rt: &R, gate: &G, member: Taker) -> u64 {
+    fn work<R: Wait, G: Gate>(&self, rt: &R, gate: &G, member: Claimant) -> u64 {
         run_worker(rt, gate, self, member).way.taken()
     }
 }
 
 // How many workers were not started. They drop what they have: others find all cells.
-fn count_absent(held: Items<Taker>) -> usize {
+fn count_absent(held: Items<Claimant>) -> usize {
     held.len()
 }
 
@@ -66,11 +66,11 @@ fn sum_of(backs: Items<u64>) -> u64 {
     taken
 }
 
-impl Crew<Taker, u64> for Shared {
+impl Crew<Claimant, u64> for Shared {
     ghost use Rattle.std.specs.Prelude.{◌≤◌, ⊤, ℕ, List, All, length};
     ghost use Rattle.crew_run.specs.Dealt.{AreDealt};
     ghost use Rattle.steal_loops.specs.declared.crew.LeadState.{LeadState};
-    ghost use Rattle.steal_loops.specs.declared.taker.Taker.{Taker};
+    ghost use Rattle.steal_loops.specs.declared.claimant.Claimant.{Claimant};
     ghost use Rattle.steal_loops.specs.working.CrewRun.{CanStart, CanLead, HasLedRun, HaveEnded};
 
     type Lead = LeadState;
@@ -91,10 +91,10 @@ impl Crew<Taker, u64> for Shared {
         rt: &R,
         gate: &G,
         lead: LeadState,
-        held: Items<Taker>,
+        held: Items<Claimant>,
         ticker: &mut K,
     ) -> LeadState
-        requires leads { (members : List Taker) × CanLead self.now lead
+        requires leads { (members : List Claimant) × CanLead self.now lead
             × (length held ≤ length members) }
         requires held { All (CanStart self.now) held }
         ensures { HasLedRun self.now lead result (K.ticks ticker.old) (K.ticks ticker.new) }
@@ -115,10 +115,10 @@ impl Crew<Taker, u64> for Shared {
         kept: Items<bool>,
         backs: Items<u64>,
     ) -> EndedCells
-        requires { (lead : LeadState) × (members : List Taker) × (held : List Taker)
+        requires { (lead : LeadState) × (members : List Claimant) × (held : List Claimant)
             × (m : ℕ) × (n : ℕ) × CanLead self.now lead × HasLedRun self.now lead led m n
             × AreDealt (λ _ _. ⊤) members kept held backs }
-        ensures { (lead : LeadState) (members held : List Taker) (m n : ℕ)
+        ensures { (lead : LeadState) (members held : List Claimant) (m n : ℕ)
             → CanLead self.now lead → HasLedRun self.now lead led m n
             → AreDealt (λ _ _. ⊤) members kept held backs
             → HaveEnded self.now lead result m n }
@@ -128,9 +128,9 @@ impl Crew<Taker, u64> for Shared {
         let Driving {
             own,
             drivers,
-            mut taker,
+            mut claimant,
         } = driving;
-        collect_all(rt, gate, self, &mut taker.seat, &mut done);
+        collect_all(rt, gate, self, &mut claimant.seat, &mut done);
         done.push_spare(own);
         EndedCells {
             done: done.into_items(),

@@ -5,13 +5,13 @@ ghost use Rattle.graph_run.specs.LoopsOnPlan.{IsReady, HasDrivers, AreFirstLeads
 ghost use Rattle.graph_run.specs.Threads.{HasRun};
 ghost use Rattle.steal_loops.specs.working.Cells.{AreCells};
 ghost use Rattle.steal_loops.specs.working.Crews.{CanDrive};
-ghost use Rattle.steal_loops.specs.working.Takers.{IsPatrol, IsDriverTaker};
+ghost use Rattle.steal_loops.specs.working.Claimants.{IsScan, IsDriverClaimant};
 
+use crate::claimant::Claimant;
 use crate::epoch::run_epoch;
-use crate::patrol::Patrol;
+use crate::scan::Scan;
 use crate::shared::Shared;
 use crate::site::Site;
-use crate::taker::Taker;
 use board_rule::DriverSeat;
 use crossbeam_utils::Backoff;
 use data_loop::LoopState;
@@ -25,7 +25,7 @@ use std::sync::Wait;
 pub(crate) struct Driving {
     pub own: LoopState,
     pub drivers: Items<DriverSeat>,
-    pub taker: Taker,
+    pub claimant: Claimant,
 }
 
 // All epochs of a plan in order, by the driver's thread. `own` has the drivers. After a cycle has
@@ -43,20 +43,20 @@ fn run_epochs<R: Wait, G: Gate, K: Ticker>(
     shared: &Shared,
     drivers: &mut [DriverSeat],
     own: &mut LoopState,
-    patrol: &mut Patrol,
+    scan: &mut Scan,
     ticker: &mut K,
 )
     requires own { IsReady shared.now.boards own.old }
     requires has { HasDrivers own.old }
-    requires drivers { AreFirstLeads own.old.score shared.now.boards drivers.old }
+    requires drivers { AreFirstLeads own.old.run_model shared.now.boards drivers.old }
     requires cells { AreCells shared.now }
-    requires patrol { IsPatrol shared.now patrol.old }
+    requires scan { IsScan shared.now scan.old }
     ensures own { HasCome (length shared.now.boards) own.old own.new }
     ensures drivers { HaveLed (length shared.now.boards) shared.now.boards
         drivers.old drivers.new }
     ensures looked { HaveLooked drivers.old drivers.new
         (K.ticks ticker.old) (K.ticks ticker.new) }
-    ensures patrol { IsPatrol shared.now patrol.new }
+    ensures scan { IsScan shared.now scan.new }
 {
     for k in 0..shared.boards.len() {
         let board = &shared.boards.as_slice()[k];
@@ -66,7 +66,7 @@ fn run_epochs<R: Wait, G: Gate, K: Ticker>(
             shared,
             board,
         };
-        run_epoch(&at, &mut drivers[k], own, patrol, ticker);
+        run_epoch(&at, &mut drivers[k], own, scan, ticker);
     }
 }
 
@@ -87,16 +87,16 @@ pub(crate) fn drive<R: Wait, G: Gate, K: Ticker>(
         result.drivers }
     ensures looked { HaveLooked driving.drivers result.drivers
         (K.ticks ticker.old) (K.ticks ticker.new) }
-    ensures taker { IsDriverTaker shared.now result.taker }
+    ensures claimant { IsDriverClaimant shared.now result.claimant }
 {
     let Driving {
         mut own,
         drivers,
-        taker,
+        claimant,
     } = driving;
     let mut drivers = drivers.into_vec();
-    let mut patrol = Patrol {
-        taker,
+    let mut scan = Scan {
+        claimant,
         absent,
         idle: 0,
         backoff: Backoff::new(),
@@ -107,12 +107,12 @@ pub(crate) fn drive<R: Wait, G: Gate, K: Ticker>(
         shared,
         drivers.as_mut_slice(),
         &mut own,
-        &mut patrol,
+        &mut scan,
         ticker,
     );
     Driving {
         own,
         drivers: Items::from_vec(drivers),
-        taker: patrol.taker,
+        claimant: scan.claimant,
     }
 }

@@ -8,20 +8,20 @@
 #![tactic(auto)]
 
 mod cell_steps;
+mod claimant;
 mod collecting;
 mod crew;
 mod epoch;
 mod leading;
 mod opening;
-mod patrol;
 mod preparing;
 mod ready;
 mod rounds;
+mod scan;
 mod shared;
 mod signs;
 mod site;
 mod stealing_run;
-mod taker;
 mod visiting;
 mod workers;
 

@@ -6,16 +6,16 @@ ghost use Rattle.ready_queues.specs.Lanes.{loops_limit};
 ghost use Rattle.steal_shelf.specs.Seats.{IsSeatOf};
 ghost use Rattle.steal_loops.specs.working.Cells.{AreCells};
 ghost use Rattle.steal_loops.specs.working.Crews.{IsPrepared};
-ghost use Rattle.steal_loops.specs.working.Takers.{IsWorker, IsWorkersWay};
+ghost use Rattle.steal_loops.specs.working.Claimants.{IsWorker, IsWorkersWay};
 
+use crate::claimant::Claimant;
 use crate::leading::Driving;
 use crate::opening::{Opened, open_plan};
 use crate::shared::Shared;
 use crate::signs::Signs;
-use crate::taker::Taker;
 use data_loop::Way;
 use graph_run::ways_of;
-use node_progress::Score;
+use node_progress::RunModel;
 use pw_graph::Plan;
 use pw_lists::{Items, Memory};
 use std::alloc::Global;
@@ -23,29 +23,29 @@ use steal_shelf::{Shelf, ShelfSeat};
 use wav_files::WavIn;
 
 // What each worker takes cells with: a seat and a way for each.
-fn takers_of(
+fn claimants_of(
     alloc: Global,
     shared: &Shared,
     seats: Items<ShelfSeat>,
     ways: Items<Way>,
-) -> Result<Items<Taker>, Memory>
+) -> Result<Items<Claimant>, Memory>
     requires cells { AreCells shared.now }
     requires seats { All (IsSeatOf shared.now.shelf) seats }
     requires ways { All (IsWorkersWay shared.now.ways) ways }
     requires count { length ways ≡ length seats }
     ensures workers { IfOk result (All (IsWorker shared.now)) }
-    ensures count { IfOk result (λ takers. length takers ≡ length ways) }
+    ensures count { IfOk result (λ claimants. length claimants ≡ length ways) }
 {
     let cells = shared.seating.loops() as usize;
-    let mut takers = Items::new(alloc);
+    let mut claimants = Items::new(alloc);
     let mut rest = ways.into_vec().into_iter();
     for seat in seats.into_vec() {
         if let Some(way) = rest.next() {
-            let taker = Taker::new(alloc, seat, way, cells)?;
-            takers.push(taker)?;
+            let claimant = Claimant::new(alloc, seat, way, cells)?;
+            claimants.push(claimant)?;
         }
     }
-    Ok(takers)
+    Ok(claimants)
 }
 
 /// What a run begins with: what its threads share, what its workers take cells with, and what the
@@ -53,7 +53,7 @@ fn takers_of(
 #[derive(Drop)]
 pub(crate) struct Prepared {
     pub shared: Shared,
-    pub workers: Items<Taker>,
+    pub workers: Items<Claimant>,
     pub driving: Driving,
 }
 
@@ -81,7 +81,7 @@ pub(crate) fn prepare(
     let (ways, way, others) = ways_of(alloc, plan, loops)?;
     let (shelf, mut seats) = Shelf::new(alloc, cells, loops + 1)?;
     let seat = seats.pop().unwrap();
-    let taker = Taker::new(alloc, seat, way, seating.loops() as usize)?;
+    let claimant = Claimant::new(alloc, seat, way, seating.loops() as usize)?;
     let signs = Signs::new(&seating);
     let shared = Shared {
         boards,
@@ -89,16 +89,16 @@ pub(crate) fn prepare(
         signs,
         shelf,
         seating,
-        score: Score::of(plan, waves),
+        run_model: RunModel::of(plan, waves),
     };
-    let workers = takers_of(alloc, &shared, seats, others)?;
+    let workers = claimants_of(alloc, &shared, seats, others)?;
     Ok(Prepared {
         shared,
         workers,
         driving: Driving {
             own,
             drivers,
-            taker,
+            claimant,
         },
     })
 }

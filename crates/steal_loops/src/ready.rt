@@ -1,10 +1,10 @@
 //! How a thread finds the cells that are ready, by the signs of their nodes.
 ghost use Rattle.std.specs.Prelude.{◌≡◌};
 ghost use Rattle.steal_loops.specs.working.Cells.{AreCells};
-ghost use Rattle.steal_loops.specs.working.Takers.{IsTaker};
+ghost use Rattle.steal_loops.specs.working.Claimants.{IsClaimant};
 
+use crate::claimant::Claimant;
 use crate::shared::Shared;
-use crate::taker::Taker;
 use crate::visiting::{has_done, leaves_ready, visit};
 use pw_outside::Gate;
 use std::sync::Wait;
@@ -16,23 +16,23 @@ pub(crate) fn visit_signed<R: Wait, G: Gate>(
     rt: &R,
     gate: &G,
     shared: &Shared,
-    taker: &mut Taker,
+    claimant: &mut Claimant,
     node: u32,
 ) -> bool
     requires cells { AreCells shared.now }
-    requires taker { IsTaker shared.now taker.old }
-    ensures taker { IsTaker shared.now taker.new }
-    ensures number { taker.new.way.number ≡ taker.old.way.number }
+    requires claimant { IsClaimant shared.now claimant.old }
+    ensures claimant { IsClaimant shared.now claimant.new }
+    ensures number { claimant.new.way.number ≡ claimant.old.way.number }
 {
     let cell = shared.seating.holder(node);
     if cell >= shared.seating.loops() {
         return false;
     }
-    let found = visit(rt, gate, shared, taker, cell);
+    let found = visit(rt, gate, shared, claimant, cell);
     if leaves_ready(found) {
         shared.signs.set_again(node);
     }
-    taker.node = node;
+    claimant.node = node;
     has_done(found)
 }
 
@@ -42,18 +42,18 @@ pub(crate) fn visit_kept<R: Wait, G: Gate>(
     rt: &R,
     gate: &G,
     shared: &Shared,
-    taker: &mut Taker,
+    claimant: &mut Claimant,
 ) -> bool
     requires cells { AreCells shared.now }
-    requires taker { IsTaker shared.now taker.old }
-    ensures taker { IsTaker shared.now taker.new }
-    ensures number { taker.new.way.number ≡ taker.old.way.number }
+    requires claimant { IsClaimant shared.now claimant.old }
+    ensures claimant { IsClaimant shared.now claimant.new }
+    ensures number { claimant.new.way.number ≡ claimant.old.way.number }
 {
-    let Some(node) = taker.kept else {
+    let Some(node) = claimant.kept else {
         return false;
     };
-    taker.kept = None;
-    visit_signed(rt, gate, shared, taker, node)
+    claimant.kept = None;
+    visit_signed(rt, gate, shared, claimant, node)
 }
 
 /// Visits the cell of some node that has a sign. Whether the visit did something. It may wait
@@ -62,31 +62,31 @@ pub(crate) fn visit_some<R: Wait, G: Gate>(
     rt: &R,
     gate: &G,
     shared: &Shared,
-    taker: &mut Taker,
+    claimant: &mut Claimant,
 ) -> bool
     requires cells { AreCells shared.now }
-    requires taker { IsTaker shared.now taker.old }
-    ensures taker { IsTaker shared.now taker.new }
-    ensures number { taker.new.way.number ≡ taker.old.way.number }
+    requires claimant { IsClaimant shared.now claimant.old }
+    ensures claimant { IsClaimant shared.now claimant.new }
+    ensures number { claimant.new.way.number ≡ claimant.old.way.number }
 {
-    match shared.signs.take_next(taker.node) {
-        Some(node) => visit_signed(rt, gate, shared, taker, node),
+    match shared.signs.take_next(claimant.node) {
+        Some(node) => visit_signed(rt, gate, shared, claimant, node),
         None => false,
     }
 }
 
 // A visit of a cell that is ready, if one is found: first that of the node that is kept. Whether
 // it did something.
-fn visit_one<R: Wait, G: Gate>(rt: &R, gate: &G, shared: &Shared, taker: &mut Taker) -> bool
+fn visit_one<R: Wait, G: Gate>(rt: &R, gate: &G, shared: &Shared, claimant: &mut Claimant) -> bool
     requires cells { AreCells shared.now }
-    requires taker { IsTaker shared.now taker.old }
-    ensures taker { IsTaker shared.now taker.new }
-    ensures number { taker.new.way.number ≡ taker.old.way.number }
+    requires claimant { IsClaimant shared.now claimant.old }
+    ensures claimant { IsClaimant shared.now claimant.new }
+    ensures number { claimant.new.way.number ≡ claimant.old.way.number }
 {
-    if visit_kept(rt, gate, shared, taker) {
+    if visit_kept(rt, gate, shared, claimant) {
         return true;
     }
-    visit_some(rt, gate, shared, taker)
+    visit_some(rt, gate, shared, claimant)
 }
 
 /// Visits cells that are ready, until none is found or there were as many visits as cells. Whether
@@ -95,16 +95,16 @@ pub(crate) fn visit_ready<R: Wait, G: Gate>(
     rt: &R,
     gate: &G,
     shared: &Shared,
-    taker: &mut Taker,
+    claimant: &mut Claimant,
 ) -> bool
     requires cells { AreCells shared.now }
-    requires taker { IsTaker shared.now taker.old }
-    ensures taker { IsTaker shared.now taker.new }
-    ensures number { taker.new.way.number ≡ taker.old.way.number }
+    requires claimant { IsClaimant shared.now claimant.old }
+    ensures claimant { IsClaimant shared.now claimant.new }
+    ensures number { claimant.new.way.number ≡ claimant.old.way.number }
 {
     let mut done = false;
-    for _ in 0..taker.ended.len() {
-        if !visit_one(rt, gate, shared, taker) {
+    for _ in 0..claimant.ended.len() {
+        if !visit_one(rt, gate, shared, claimant) {
             break;
         }
         done = true;

@@ -1,10 +1,10 @@
 //! How a thread goes through all cells, one after the other.
 ghost use Rattle.std.specs.Prelude.{◌≡◌};
 ghost use Rattle.steal_loops.specs.working.Cells.{AreCells};
-ghost use Rattle.steal_loops.specs.working.Takers.{IsTaker};
+ghost use Rattle.steal_loops.specs.working.Claimants.{IsClaimant};
 
+use crate::claimant::{Claimant, cell_at};
 use crate::shared::Shared;
-use crate::taker::{Taker, cell_at};
 use crate::visiting::{has_done, visit};
 use pw_outside::Gate;
 use std::sync::Wait;
@@ -15,17 +15,17 @@ pub(crate) fn visit_next<R: Wait, G: Gate>(
     rt: &R,
     gate: &G,
     shared: &Shared,
-    taker: &mut Taker,
+    claimant: &mut Claimant,
 ) -> bool
     requires cells { AreCells shared.now }
-    requires taker { IsTaker shared.now taker.old }
-    ensures taker { IsTaker shared.now taker.new }
-    ensures number { taker.new.way.number ≡ taker.old.way.number }
+    requires claimant { IsClaimant shared.now claimant.old }
+    ensures claimant { IsClaimant shared.now claimant.new }
+    ensures number { claimant.new.way.number ≡ claimant.old.way.number }
 {
-    let cell = cell_at(taker.next, taker.ended.len());
-    taker.next = cell.saturating_add(1);
-    if cell >= taker.ended.len() || taker.ended[cell] {
+    let cell = cell_at(claimant.next, claimant.ended.len());
+    claimant.next = cell.saturating_add(1);
+    if cell >= claimant.ended.len() || claimant.ended[cell] {
         return false;
     }
-    has_done(visit(rt, gate, shared, taker, cell as u32))
+    has_done(visit(rt, gate, shared, claimant, cell as u32))
 }

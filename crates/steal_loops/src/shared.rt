@@ -3,7 +3,7 @@ use crate::signs::Signs;
 use board_rule::Board;
 use data_loop::Ways;
 use graph_run::Seating;
-use node_progress::Score;
+use node_progress::RunModel;
 use pw_lists::Items;
 use steal_shelf::Shelf;
 
@@ -16,5 +16,5 @@ pub(crate) struct Shared {
     pub signs: Signs,
     pub shelf: Shelf,
     pub seating: Seating,
-    pub score: Score,
+    pub run_model: RunModel,
 }

@@ -4,12 +4,12 @@ ghost use Rattle.data_loop.specs.Loops.{plan_of};
 ghost use Rattle.steal_shelf.specs.working.CellSteps.{HasStepped};
 ghost use Rattle.steal_shelf.specs.Seats.{cells_of, IsAllowed};
 ghost use Rattle.steal_loops.specs.working.Cells.{AreCells};
-ghost use Rattle.steal_loops.specs.working.Takers.{IsTaker};
+ghost use Rattle.steal_loops.specs.working.Claimants.{IsClaimant};
 ghost use Rattle.steal_loops.specs.working.Visits.{HasVisited};
 
 use crate::cell_steps::{Step, step_cell};
+use crate::claimant::Claimant;
 use crate::shared::Shared;
-use crate::taker::Taker;
 use data_loop::LoopState;
 use pw_outside::Gate;
 use std::sync::Wait;
@@ -100,33 +100,33 @@ pub(crate) fn visit<R: Wait, G: Gate>(
     rt: &R,
     gate: &G,
     shared: &Shared,
-    taker: &mut Taker,
+    claimant: &mut Claimant,
     cell: u32,
 ) -> Visited
     requires cells { AreCells shared.now }
-    requires taker { IsTaker shared.now taker.old }
+    requires claimant { IsClaimant shared.now claimant.old }
     requires cell { cell < length (cells_of shared.now.shelf) }
-    ensures taker { IsTaker shared.now taker.new }
-    ensures number { taker.new.way.number ≡ taker.old.way.number }
-    ensures visited { HasVisited shared.now cell result taker.old taker.new }
+    ensures claimant { IsClaimant shared.now claimant.new }
+    ensures number { claimant.new.way.number ≡ claimant.old.way.number }
+    ensures visited { HasVisited shared.now cell result claimant.old claimant.new }
 {
-    let Some(mut state) = shared.shelf.fetch(&mut taker.seat, cell) else {
+    let Some(mut state) = shared.shelf.fetch(&mut claimant.seat, cell) else {
         return Visited::Out;
     };
     let stepped = advance_unless_ended(shared, cell, &mut state, gate);
     let woke = state.woke();
-    shared.shelf.put_back(&mut taker.seat, cell, state);
+    shared.shelf.put_back(&mut claimant.seat, cell, state);
     match stepped {
         Some(step) => {
-            shared.signs.give_up(taker.kept);
+            shared.signs.give_up(claimant.kept);
             let (kept, others) = shared.signs.split(woke);
-            taker.kept = kept;
+            claimant.kept = kept;
             shared.signs.set(others);
-            shared.ways.forward(rt, &mut taker.way, others);
+            shared.ways.forward(rt, &mut claimant.way, others);
             Visited::Stepped(step)
         }
         None => {
-            taker.ended[cell as usize] = true;
+            claimant.ended[cell as usize] = true;
             Visited::Ended
         }
     }

@@ -1,50 +1,50 @@
 //! What a worker does until all cells are at their end.
 ghost use Rattle.std.specs.Prelude.{◌≡◌, ◌<◌, IsTrue};
 ghost use Rattle.steal_loops.specs.working.Cells.{AreCells, HaveFinished};
-ghost use Rattle.steal_loops.specs.working.Takers.{IsTaker, IsWorker};
+ghost use Rattle.steal_loops.specs.working.Claimants.{IsClaimant, IsWorker};
 
+use crate::claimant::{Claimant, are_all};
 use crate::ready::{visit_kept, visit_signed, visit_some};
 use crate::rounds::visit_next;
 use crate::shared::Shared;
-use crate::taker::{Taker, are_all};
 use crossbeam_utils::Backoff;
 use pw_outside::Gate;
 use std::sync::Wait;
 
 // Looks at the oldest number in the worker's queue. Whether there was one, and the node has no
 // sign any more, or the visit of its cell did something.
-fn visit_given<R: Wait, G: Gate>(rt: &R, gate: &G, shared: &Shared, taker: &mut Taker) -> bool
+fn visit_given<R: Wait, G: Gate>(rt: &R, gate: &G, shared: &Shared, claimant: &mut Claimant) -> bool
     requires cells { AreCells shared.now }
-    requires taker { IsTaker shared.now taker.old }
-    requires own { taker.old.way.number < shared.now.ways.loops }
-    ensures taker { IsTaker shared.now taker.new }
-    ensures number { taker.new.way.number ≡ taker.old.way.number }
+    requires claimant { IsClaimant shared.now claimant.old }
+    requires own { claimant.old.way.number < shared.now.ways.loops }
+    ensures claimant { IsClaimant shared.now claimant.new }
+    ensures number { claimant.new.way.number ≡ claimant.old.way.number }
 {
-    let Some(node) = shared.ways.receive(rt, &mut taker.way) else {
+    let Some(node) = shared.ways.receive(rt, &mut claimant.way) else {
         return false;
     };
     if !shared.signs.take(node) {
         return true;
     }
-    visit_signed(rt, gate, shared, taker, node)
+    visit_signed(rt, gate, shared, claimant, node)
 }
 
 // One round: of the node that the worker keeps, else of the oldest number in its queue, else of
 // some node that has a sign. Whether something was done.
-fn go_round<R: Wait, G: Gate>(rt: &R, gate: &G, shared: &Shared, taker: &mut Taker) -> bool
+fn go_round<R: Wait, G: Gate>(rt: &R, gate: &G, shared: &Shared, claimant: &mut Claimant) -> bool
     requires cells { AreCells shared.now }
-    requires taker { IsTaker shared.now taker.old }
-    requires own { taker.old.way.number < shared.now.ways.loops }
-    ensures taker { IsTaker shared.now taker.new }
-    ensures number { taker.new.way.number ≡ taker.old.way.number }
+    requires claimant { IsClaimant shared.now claimant.old }
+    requires own { claimant.old.way.number < shared.now.ways.loops }
+    ensures claimant { IsClaimant shared.now claimant.new }
+    ensures number { claimant.new.way.number ≡ claimant.old.way.number }
 {
-    if visit_kept(rt, gate, shared, taker) {
+    if visit_kept(rt, gate, shared, claimant) {
         return true;
     }
-    if visit_given(rt, gate, shared, taker) {
+    if visit_given(rt, gate, shared, claimant) {
         return true;
     }
-    visit_some(rt, gate, shared, taker)
+    visit_some(rt, gate, shared, claimant)
 }
 
 // One round, and where several before it found nothing a visit of one cell more. Whether all cells
@@ -53,25 +53,25 @@ fn is_over<R: Wait, G: Gate>(
     rt: &R,
     gate: &G,
     shared: &Shared,
-    taker: &mut Taker,
+    claimant: &mut Claimant,
     backoff: &Backoff,
 ) -> bool
     requires cells { AreCells shared.now }
-    requires taker { IsTaker shared.now taker.old }
-    requires own { taker.old.way.number < shared.now.ways.loops }
-    ensures taker { IsTaker shared.now taker.new }
-    ensures number { taker.new.way.number ≡ taker.old.way.number }
+    requires claimant { IsClaimant shared.now claimant.old }
+    requires own { claimant.old.way.number < shared.now.ways.loops }
+    ensures claimant { IsClaimant shared.now claimant.new }
+    ensures number { claimant.new.way.number ≡ claimant.old.way.number }
     ensures over { IsTrue result → HaveFinished shared.now }
 {
-    if go_round(rt, gate, shared, taker) {
+    if go_round(rt, gate, shared, claimant) {
         backoff.reset();
         return false;
     }
     if backoff.is_completed() {
-        if visit_next(rt, gate, shared, taker) {
+        if visit_next(rt, gate, shared, claimant) {
             return false;
         }
-        if are_all(taker.ended.as_slice()) {
+        if are_all(claimant.ended.as_slice()) {
             return true;
         }
     }
@@ -88,19 +88,24 @@ fn is_over<R: Wait, G: Gate>(
 /// On a machine with other work a worker that lets others run gives a whole time slice away. That
 /// does little harm here, where the other threads run what it would have run.
 /// Condition: the way is that of a worker.
-pub(crate) fn run_worker<R: Wait, G: Gate>(rt: &R, gate: &G, shared: &Shared, taker: Taker) -> Taker
+pub(crate) fn run_worker<R: Wait, G: Gate>(
+    rt: &R,
+    gate: &G,
+    shared: &Shared,
+    claimant: Claimant,
+) -> Claimant
     requires cells { AreCells shared.now }
-    requires worker { IsWorker shared.now taker }
+    requires worker { IsWorker shared.now claimant }
     ensures worker { IsWorker shared.now result }
     ensures over { HaveFinished shared.now }
 {
-    let mut taker = taker;
+    let mut claimant = claimant;
     let backoff = Backoff::new();
-    shared.ways.start(&taker.way);
+    shared.ways.start(&claimant.way);
     for _ in rt.forever() {
-        if is_over(rt, gate, shared, &mut taker, &backoff) {
+        if is_over(rt, gate, shared, &mut claimant, &backoff) {
             break;
         }
     }
-    taker
+    claimant
 }

@@ -63,10 +63,10 @@ module _ (shape : Shape) (os ns : List ℕ) (k m : ℕ) where
 
   -- the same loop on both
   module _ (s : LoopState) (t : TableId) (seat : Known) (a : IsOnBoard p t s)
-      (f : IsFirstSeat (plan_of s) s.score.waves.value s.epoch s.nodes p t seat)
-      (g : IsFirstSeat (plan_of s) s.score.waves.value s.epoch s.nodes q t seat) where
+      (f : IsFirstSeat (plan_of s) s.run_model.waves.value s.epoch s.nodes p t seat)
+      (g : IsFirstSeat (plan_of s) s.run_model.waves.value s.epoch s.nodes q t seat) where
     abbrev v : View
-    v = a.stage.seat.knows
+    v = a.epoch_state.seat.knows
 
     numbers : f.number ≡ g.number
     numbers = ap (λ (x : Known). x.knows.number) (sym f.is ∙ g.is)
@@ -74,12 +74,12 @@ module _ (shape : Shape) (os ns : List ℕ) (k m : ℕ) where
     owners : owners_of p ≡ owners_of q
     owners = ap (λ (x : Known). x.knows.owners) (sym f.is ∙ g.is)
 
-    from : (x : Member) → Contains a.stage.members x → ComesFrom (plan_of s) s.nodes a.stands.epoch false x
+    from : (x : Member) → Contains a.epoch_state.members x → ComesFrom (plan_of s) s.nodes a.stands.epoch false x
     from x c = comes_from (plan_of s) s.nodes a.stands.epoch false x
-        (subst (λ (ms : List Member). Contains ms x) (a.loop.parts s.epoch a.stands.epoch a.stage a.stands.at a.here).members c)
+        (subst (λ (ms : List Member). Contains ms x) (a.loop.parts s.epoch a.stands.epoch a.epoch_state a.stands.at a.here).members c)
 
-    rest_again : (x : Member) → Contains a.stage.members x → IsAtRest p v a.stage.own (p.index x.node)
-        → IsAtRest q v a.stage.own (q.index x.node)
+    rest_again : (x : Member) → Contains a.epoch_state.members x → IsAtRest p v a.epoch_state.own (p.index x.node)
+        → IsAtRest q v a.epoch_state.own (q.index x.node)
     rest_again x c h = let i : ℕ = p.index x.node in let o = from x c in let has = h.0.member.0 in
         let in_loop : Contains s.nodes x.node = (x.at, o.low, get_or_default s.nodes x.at x.node 0 o.low ∙ o.node) in
         let mine : v.number ≡ g.number = sym has.owned ∙ f.owned x.node in_loop has.inside has.follows ∙ numbers in (
@@ -91,13 +91,13 @@ module _ (shape : Shape) (os ns : List ℕ) (k m : ℕ) where
             );
             idle = h.0.idle;
           },
-          even_again v a.stage.own i _ h.1,
+          even_again v a.epoch_state.own i _ h.1,
         )
 
     again : IsOnBoard q t s
     again = record {
       loop = a.loop;
-      stage = a.stage;
+      epoch_state = a.epoch_state;
       here = a.here;
       stands = record {
         sound = a.stands.sound;
@@ -117,11 +117,11 @@ module _ (shape : Shape) (os ns : List ℕ) (k m : ℕ) where
         };
         members = a.stands.members;
         apart = a.stands.apart;
-        rests = λ n d low. let x : Member = get_or a.stage.members n d in
-            rest_again x (n, low, get_or_default a.stage.members n x d low) (a.stands.rests n d low);
+        rests = λ n d low. let x : Member = get_or a.epoch_state.members n d in
+            rest_again x (n, low, get_or_default a.epoch_state.members n x d low) (a.stands.rests n d low);
         each = a.stands.each;
         room = a.stands.room;
-        front = record { floor = a.stands.front.floor; past = a.stands.front.past };
+        progress = record { floor = a.stands.progress.floor; past = a.stands.progress.past };
       };
       later = a.later;
       led = a.led;
@@ -130,11 +130,11 @@ module _ (shape : Shape) (os ns : List ℕ) (k m : ℕ) where
 
 -- THE BRIDGE
 pub rebound : (s : LoopState) (b c : BoardShape) (t u : TableId) (seat : Known) → c.shape ≡ b.shape
-    → IsFirstSeat (plan_of s) s.score.waves.value s.epoch s.nodes (layout_of b) t seat
-    → IsFirstSeat (plan_of s) s.score.waves.value s.epoch s.nodes (layout_of c) u seat
+    → IsFirstSeat (plan_of s) s.run_model.waves.value s.epoch s.nodes (layout_of b) t seat
+    → IsFirstSeat (plan_of s) s.run_model.waves.value s.epoch s.nodes (layout_of c) u seat
     → IsOnBoard (layout_of b) t s → IsOnBoard (layout_of c) u s
 rebound s b c t u seat same f g a = subst
-    (λ (x : Shape × TableId). IsFirstSeat (plan_of s) s.score.waves.value s.epoch s.nodes (layout_of (record { shape = x.0; seat_of = c.seat_of; seats = c.seats })) x.1 seat
+    (λ (x : Shape × TableId). IsFirstSeat (plan_of s) s.run_model.waves.value s.epoch s.nodes (layout_of (record { shape = x.0; seat_of = c.seat_of; seats = c.seats })) x.1 seat
     → IsOnBoard (layout_of (record { shape = x.0; seat_of = c.seat_of; seats = c.seats })) x.1 s)
     (λ i. (sym same i, ap (λ (k : Known). k.table) (sym f.is ∙ g.is) i))
     (λ h. again b.shape b.seat_of c.seat_of b.seats c.seats s t seat a f h) g

@@ -12,5 +12,5 @@ pub record IsFirstCell (c : LoopState) : Type 0 where
 
 -- all of one run: the same plan and the same waves
 abbrev pub AreOfOneRun : List LoopState → Type 0
-AreOfOneRun cells = All (λ c. All (λ d. (c.score.plan.value ≡ d.score.plan.value)
-    × (c.score.waves.value ≡ d.score.waves.value)) cells) cells
+AreOfOneRun cells = All (λ c. All (λ d. (c.run_model.plan.value ≡ d.run_model.plan.value)
+    × (c.run_model.waves.value ≡ d.run_model.waves.value)) cells) cells

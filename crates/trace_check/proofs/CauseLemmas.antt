@@ -9,7 +9,7 @@ use Rattle.trace_check.specs.declared.causes.Cause.{Cause}
 use Rattle.trace_check.specs.declared.causes.Cause.TheVariants as C
 use Rattle.trace_check.specs.Causes.{IsCauseInside}
 use Rattle.trace_check.specs.Reasons.{IsNext, IsCauseIn}
-use Rattle.trace_check.proofs.FrontsLemmas.{joined_more, joined_none}
+use Rattle.trace_check.proofs.ProgressLemmas.{joined_more, joined_none}
 
 -- the first cycle is the next after no event
 first_next : (shape : Shape) (cycle : ℕ) → IsNext ((shape, cycle) ∷ []) [] shape cycle

@@ -14,9 +14,9 @@ use Rattle.pw_graph.specs.History.{AreJoined, epoch_cycles, cycles_of}
 use Rattle.pw_graph.specs.SoundShape.{IsSoundShape}
 use Rattle.trace_check.specs.declared.causes.Cause.{Cause}
 use Rattle.trace_check.specs.Reasons.{IsCauseIn}
-use Rattle.trace_check.specs.working.Fronts.{AreSound, StopAfter, StopsAfter}
+use Rattle.trace_check.specs.working.Progress.{AreSound, StopAfter, StopsAfter}
 use Rattle.trace_check.proofs.CauseLemmas.{cause_on}
-use Rattle.trace_check.proofs.FrontsLemmas.{take_behind, joined_more, stop_behind, stop_at_end}
+use Rattle.trace_check.proofs.ProgressLemmas.{take_behind, joined_more, stop_behind, stop_at_end}
 
 -- a front of what is after a front
 taken_on : (es : List Event) (at n : ℕ) → at ≤ length es → take (at + n) es ≡ take at es ++ take n (drop at es)

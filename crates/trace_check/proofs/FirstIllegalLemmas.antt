@@ -6,8 +6,8 @@ use Rattle.pw_graph.specs.declared.event.Event.{Event}
 use Rattle.pw_graph.specs.declared.shape.Shape.{Shape}
 use Rattle.pw_graph.specs.History.{cycles_of}
 use Rattle.trace_check.specs.FirstIllegal.{IsFirstIllegal}
-use Rattle.trace_check.specs.working.Fronts.{GoOn, StopAfter}
-use Rattle.trace_check.proofs.FrontsLemmas.{front_goes_on}
+use Rattle.trace_check.specs.working.Progress.{GoOn, StopAfter}
+use Rattle.trace_check.proofs.ProgressLemmas.{front_goes_on}
 
 -- where the cycles of the epochs stop
 pub first_illegal : (shapes : List Shape) (events : List Event) (n at : ℕ) → at ≡ n + 1 → StopAfter (cycles_of shapes) events n → IsFirstIllegal shapes events at

@@ -4,7 +4,7 @@ pub mod NextEventLemmas
 pub mod AllowedLemmas
 pub mod CompletingLemmas
 pub mod AdmittingLemmas
-pub mod FrontsLemmas
+pub mod ProgressLemmas
 pub mod FirstIllegalLemmas
 pub mod OrderLemmas
 pub mod CauseLemmas

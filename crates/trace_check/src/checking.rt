@@ -6,9 +6,9 @@ ghost use Rattle.pw_graph.specs.History.{cycles_of};
 ghost use Rattle.pw_graph.specs.SoundPlan.{IsSoundPlan};
 ghost use Rattle.trace_check.specs.declared.checking.Verdict.{Verdict};
 ghost use Rattle.trace_check.specs.FirstIllegal.{IsVerdictOn};
-ghost use Rattle.trace_check.specs.working.Fronts.{front_length, IsFrontOf};
+ghost use Rattle.trace_check.specs.working.Progress.{progress_length, IsProgressOf};
 
-use crate::following::{Front, follow_epochs};
+use crate::following::{Progress, follow_epochs};
 use pw_graph::{Event, Plan};
 use pw_lists::{Items, Memory};
 use std::alloc::Global;
@@ -24,21 +24,21 @@ pub enum Verdict {
 }
 
 // What a prefix of the events says of them all.
-fn verdict_of(front: Front, count: usize) -> Verdict
-    requires within { front_length front ≤ count }
+fn verdict_of(progress: Progress, count: usize) -> Verdict
+    requires within { progress_length progress ≤ count }
     requires few { count + 1 < 2 ^ 32 }
     ensures { (shapes : List Shape) (events : List Event) → length events ≡ count
-        → IsFrontOf (cycles_of shapes) events front → IsVerdictOn shapes events result }
+        → IsProgressOf (cycles_of shapes) events progress → IsVerdictOn shapes events result }
 {
-    match front {
-        Front::Whole(n) => {
+    match progress {
+        Progress::Whole(n) => {
             if n == count {
                 Verdict::Legal
             } else {
                 Verdict::Illegal { at: (n + 1) as u32 }
             }
         }
-        Front::Part(n, _cause) => Verdict::Illegal { at: (n + 1) as u32 },
+        Progress::Part(n, _cause) => Verdict::Illegal { at: (n + 1) as u32 },
     }
 }
 
@@ -59,6 +59,6 @@ pub fn check(alloc: Global, plan: &Plan, events: &Items<Event>) -> Result<Verdic
         → IfOk result (λ verdict. verdict ≡ v) }
 {
     let events = events.as_slice();
-    let front = follow_epochs(alloc, plan.epochs.as_slice(), events)?;
-    Ok(verdict_of(front, events.len()))
+    let progress = follow_epochs(alloc, plan.epochs.as_slice(), events)?;
+    Ok(verdict_of(progress, events.len()))
 }

@@ -4,7 +4,7 @@ ghost use Rattle.pw_graph.specs.declared.event.Event.TheVariants as E;
 ghost use Rattle.pw_graph.specs.SoundShape.{IsSoundShape};
 ghost use Rattle.pw_graph.specs.History.{epoch_cycles, cycles_of};
 ghost use Rattle.trace_check.specs.working.Admitting.{IsOrderOf};
-ghost use Rattle.trace_check.specs.working.Fronts.{front_length, IsFrontOf, IsFrontInside};
+ghost use Rattle.trace_check.specs.working.Progress.{progress_length, IsProgressOf, IsProgressInside};
 
 use crate::causes::{Cause, event_cause, missing_cause};
 use crate::next_event::may_follow;
@@ -17,7 +17,7 @@ use std::alloc::Global;
 
 /// A prefix of a row of events.
 #[derive(Clone, Copy, Debug, Drop)]
-pub(crate) enum Front {
+pub(crate) enum Progress {
     /// The first n events are all that was looked for.
     Whole(usize),
     /// The first n events can go on, and not one more, or no more are there; and why.
@@ -45,10 +45,10 @@ fn is_end_of(event: &Event, in_cycle: u32) -> bool
 }
 
 // How far the events after a Begin go on. Cost: one look at each event.
-fn follow_inside(order: &Order, shape: &Shape, cycle: u32, events: &[Event]) -> Front
+fn follow_inside(order: &Order, shape: &Shape, cycle: u32, events: &[Event]) -> Progress
     requires sound { IsSoundShape shape.now }
     requires order { IsOrderOf shape.now order.now }
-    ensures { IsFrontInside shape.now cycle events.now result }
+    ensures { IsProgressInside shape.now cycle events.now result }
 {
     let mut so_far = nothing_yet(cycle);
     for i in 0..events.len() {
@@ -56,49 +56,50 @@ fn follow_inside(order: &Order, shape: &Shape, cycle: u32, events: &[Event]) -> 
         if may_follow(order, shape.driver, cycle, so_far, &event) {
             so_far = after_event(so_far, &event);
         } else if is_end_of(&event, cycle) && is_within(order.active, so_far.finished) {
-            return Front::Whole(i);
+            return Progress::Whole(i);
         } else {
-            return Front::Part(i, event_cause(order, shape.driver, cycle, so_far, &event));
+            return Progress::Part(i, event_cause(order, shape.driver, cycle, so_far, &event));
         }
     }
-    Front::Part(events.len(), missing_cause(order, cycle, so_far))
+    Progress::Part(events.len(), missing_cause(order, cycle, so_far))
 }
 
 // How far events go on as those of one cycle.
-fn follow_cycle(order: &Order, shape: &Shape, cycle: u32, events: &[Event]) -> Front
+fn follow_cycle(order: &Order, shape: &Shape, cycle: u32, events: &[Event]) -> Progress
     requires sound { IsSoundShape shape.now }
     requires order { IsOrderOf shape.now order.now }
-    ensures within { front_length result ≤ length events.now }
-    ensures front { IsFrontOf ((shape.now, cycle) ∷ []) events.now result }
+    ensures within { progress_length result ≤ length events.now }
+    ensures progress { IsProgressOf ((shape.now, cycle) ∷ []) events.now result }
 {
     let Some((first, rest)) = events.split_first() else {
-        return Front::Part(0, Cause::NotBegun { cycle });
+        return Progress::Part(0, Cause::NotBegun { cycle });
     };
     if !is_begin_of(first, cycle) {
-        return Front::Part(0, Cause::NotBegun { cycle });
+        return Progress::Part(0, Cause::NotBegun { cycle });
     }
     match follow_inside(order, shape, cycle, rest) {
-        Front::Whole(n) => Front::Whole(n + 2),
-        Front::Part(n, cause) => Front::Part(n + 1, cause),
+        Progress::Whole(n) => Progress::Whole(n + 2),
+        Progress::Part(n, cause) => Progress::Part(n + 1, cause),
     }
 }
 
 // How far events go on as those of the cycles of an epoch.
-fn follow_epoch(alloc: Global, shape: &Shape, events: &[Event]) -> Result<Front, Memory>
+fn follow_epoch(alloc: Global, shape: &Shape, events: &[Event]) -> Result<Progress, Memory>
     requires { IsSoundShape shape.now }
-    ensures within { IfOk result (λ front. front_length front ≤ length events.now) }
-    ensures front { IfOk result (IsFrontOf (epoch_cycles shape.now shape.now.cycles) events.now) }
+    ensures within { IfOk result (λ progress. progress_length progress ≤ length events.now) }
+    ensures progress { IfOk result
+        (IsProgressOf (epoch_cycles shape.now shape.now.cycles) events.now) }
 {
     let order = order_of(alloc, shape)?;
     let mut at: usize = 0;
     for k in 0..shape.cycles {
         let (_before, rest) = events.split_at(at);
         match follow_cycle(&order, shape, shape.first + k, rest) {
-            Front::Whole(n) => at += n,
-            Front::Part(n, cause) => return Ok(Front::Part(at + n, cause)),
+            Progress::Whole(n) => at += n,
+            Progress::Part(n, cause) => return Ok(Progress::Part(at + n, cause)),
         }
     }
-    Ok(Front::Whole(at))
+    Ok(Progress::Whole(at))
 }
 
 /// How far events go on as those of the cycles of epochs. Takes memory for 64 sets of nodes at a
@@ -108,19 +109,19 @@ pub(crate) fn follow_epochs(
     alloc: Global,
     epochs: &[Epoch],
     events: &[Event],
-) -> Result<Front, Memory>
+) -> Result<Progress, Memory>
     requires { All (λ e. IsSoundShape e.shape) epochs.now }
-    ensures within { IfOk result (λ front. front_length front ≤ length events.now) }
-    ensures front { IfOk result
-        (IsFrontOf (cycles_of (map (λ e. e.shape) epochs.now)) events.now) }
+    ensures within { IfOk result (λ progress. progress_length progress ≤ length events.now) }
+    ensures progress { IfOk result
+        (IsProgressOf (cycles_of (map (λ e. e.shape) epochs.now)) events.now) }
 {
     let mut at: usize = 0;
     for epoch in epochs {
         let (_before, rest) = events.split_at(at);
         match follow_epoch(alloc, &epoch.shape, rest)? {
-            Front::Whole(n) => at += n,
-            Front::Part(n, cause) => return Ok(Front::Part(at + n, cause)),
+            Progress::Whole(n) => at += n,
+            Progress::Part(n, cause) => return Ok(Progress::Part(at + n, cause)),
         }
     }
-    Ok(Front::Whole(at))
+    Ok(Progress::Whole(at))
 }

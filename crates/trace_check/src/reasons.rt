@@ -5,10 +5,10 @@ ghost use Rattle.pw_graph.specs.declared.shape.Shape.{Shape};
 ghost use Rattle.pw_graph.specs.History.{cycles_of};
 ghost use Rattle.pw_graph.specs.SoundPlan.{IsSoundPlan};
 ghost use Rattle.trace_check.specs.Reasons.{IsReasonOn};
-ghost use Rattle.trace_check.specs.working.Fronts.{front_length, IsFrontOf};
+ghost use Rattle.trace_check.specs.working.Progress.{progress_length, IsProgressOf};
 
 use crate::causes::Cause;
-use crate::following::{Front, follow_epochs};
+use crate::following::{Progress, follow_epochs};
 use pw_graph::{Event, Plan};
 use pw_lists::{Items, Memory};
 use std::alloc::Global;
@@ -23,14 +23,14 @@ pub struct Reason {
 }
 
 // What a prefix of the events says of them all.
-fn reason_in(front: Front, count: usize) -> Option<Reason>
-    requires within { front_length front ≤ count }
+fn reason_in(progress: Progress, count: usize) -> Option<Reason>
+    requires within { progress_length progress ≤ count }
     requires few { count + 1 < 2 ^ 32 }
     ensures { (shapes : List Shape) (events : List Event) → length events ≡ count
-        → IsFrontOf (cycles_of shapes) events front → IsReasonOn shapes events result }
+        → IsProgressOf (cycles_of shapes) events progress → IsReasonOn shapes events result }
 {
-    match front {
-        Front::Whole(n) => {
+    match progress {
+        Progress::Whole(n) => {
             if n == count {
                 None
             } else {
@@ -40,7 +40,7 @@ fn reason_in(front: Front, count: usize) -> Option<Reason>
                 })
             }
         }
-        Front::Part(n, cause) => Some(Reason {
+        Progress::Part(n, cause) => Some(Reason {
             at: (n + 1) as u32,
             cause,
         }),
@@ -61,6 +61,6 @@ pub fn reason_of(
     ensures { IfOk result (IsReasonOn (map (λ e. e.shape) plan.now.epochs) events.now) }
 {
     let events = events.as_slice();
-    let front = follow_epochs(alloc, plan.epochs.as_slice(), events)?;
-    Ok(reason_in(front, events.len()))
+    let progress = follow_epochs(alloc, plan.epochs.as_slice(), events)?;
+    Ok(reason_in(progress, events.len()))
 }

@@ -7,16 +7,16 @@ use Rattle.board_rule.specs.declared.view.View.{View}
 use Rattle.board_rule.specs.Layout.{BoardLayout}
 use Rattle.board_rule.specs.View.{node_of}
 use Rattle.data_loop.specs.declared.member.Member.{Member}
-use Rattle.node_progress.specs.declared.score.Score.{Score}
+use Rattle.node_progress.specs.declared.run_model.RunModel.{RunModel}
 use Rattle.node_progress.specs.NodeStates.{IsWorkedIn}
 use Rattle.data_loop.specs.Members.{member_of}
 
 -- the member is that of a node that works in the cycle c of epoch k, in which it is, on the epoch's
 -- board
-pub record IsPlayer (score : Score) (p : BoardLayout) (v : View) (k c : ℕ)
+pub record IsPlayer (run_model : RunModel) (p : BoardLayout) (v : View) (k c : ℕ)
     (m : Member) : Type 0 where
-  pub works : IsWorkedIn score k c m.node
+  pub works : IsWorkedIn run_model k c m.node
   pub shape : p.shape ≡ works.epoch.shape
-  pub expect : v.expect ≡ epoch_rows score.plan.value score.waves.value works.epoch
+  pub expect : v.expect ≡ epoch_rows run_model.plan.value run_model.waves.value works.epoch
   pub now : (node_of v (p.index m.node)).next ≡ c
-  pub member : m ≡ member_of score.plan.value works.epoch m.node m.at
+  pub member : m ≡ member_of run_model.plan.value works.epoch m.node m.at

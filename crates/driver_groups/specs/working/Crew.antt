@@ -4,7 +4,7 @@ use Rattle.std.specs.Prelude.{◌≡◌, ◌<◌, ◌≤◌, Bool, true, false, 
 use Rattle.std.specs.List.{AllZip}
 use Rattle.graph_run.specs.declared.alone.AloneRun.{AloneRun}
 use Rattle.graph_run.specs.declared.ended.EndedRun.{EndedRun}
-use Rattle.graph_run.specs.RunStages.{CanRunAlone, HasRunAlone}
+use Rattle.graph_run.specs.RunStates.{CanRunAlone, HasRunAlone}
 use Rattle.driver_groups.specs.declared.crew.LeadEnd.{LeadEnd}
 use Rattle.driver_groups.specs.declared.crew.LeadStart.{LeadStart}
 use Rattle.driver_groups.specs.declared.crew.PlacedRun.{PlacedRun}

@@ -10,7 +10,7 @@ use Rattle.graph_run.specs.declared.alone.AloneRun.{AloneRun}
 use Rattle.graph_run.specs.declared.ended.EndedRun.{EndedRun}
 use Rattle.graph_run.specs.Assignment.{loop_of}
 use Rattle.graph_run.specs.Leads.{checks_of}
-use Rattle.graph_run.specs.RunStages.{IsAloneRun, IsEndedRun, HasBoardsBy}
+use Rattle.graph_run.specs.RunStates.{IsAloneRun, IsEndedRun, HasBoardsBy}
 use Rattle.driver_groups.specs.declared.crew.PlacedRun.{PlacedRun}
 use Rattle.driver_groups.specs.declared.group_run.Crew.{Crew}
 use Rattle.driver_groups.specs.working.Crew.{CanLead}

@@ -22,7 +22,7 @@ module _ (shared : Shared) where
   pub record CanLead (l : LeadStart) (loops : List LoopWay) : Type 0 where
     pub can_start : All (CanStart shared) loops
     pub can_drive : CanDrive shared l.driving
-    pub nodes : (n : ℕ) → n < length shared.score.plan.value.nodes
+    pub nodes : (n : ℕ) → n < length shared.run_model.plan.value.nodes
         → HasNode l.driving.own loops n
     pub bare : (l.adopted.list ≡ []) × (l.done.list ≡ [])
     pub adopted : length loops ≤ l.adopted.spare
@@ -39,6 +39,6 @@ module _ (shared : Shared) where
 
   -- AFTER IT: so have all loops
   pub record HaveEnded (l : LeadStart) (loops : List LoopWay) (e : EndedLoops) (m n : ℕ) : Type 0 where
-    pub done : AreDone shared.score.plan.value shared.score.waves.value e.done
+    pub done : AreDone shared.run_model.plan.value shared.run_model.waves.value e.done
     pub drivers : HaveLed (length shared.boards) shared.boards l.driving.drivers e.drivers
     pub looked : HaveLooked l.driving.drivers e.drivers m n

@@ -12,8 +12,8 @@ use Rattle.graph_run.specs.Threads.{CanStart, CanDrive, HasNode}
 -- PREPARED: boards, loops and drivers' seats of the plan. Each node of the plan is one of some loop
 pub record IsPrepared (plan : Plan) (waves : List WavIn) (loops : ℕ)
     (r : Prepared) : Type 0 where
-  pub plan_is : r.shared.score.plan.value ≡ plan
-  pub waves_are : r.shared.score.waves.value ≡ waves
+  pub plan_is : r.shared.run_model.plan.value ≡ plan
+  pub waves_are : r.shared.run_model.waves.value ≡ waves
   pub shapes : AreBoardsBy plan (loop_of plan loops) loops r.shared.boards
   pub drivers : r.driving.drivers
       ≡ map (driver_of plan waves loops) (enumerate_from 0 r.shared.boards)

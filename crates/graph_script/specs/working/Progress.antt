@@ -5,14 +5,14 @@ use Rattle.graph_script.specs.declared.fault.ScriptFault.{ScriptFault}
 use Rattle.graph_script.specs.declared.command.Command.{Command}
 use Rattle.graph_script.specs.declared.command.Command.TheVariants as C
 use Rattle.graph_script.specs.declared.reading.NewNode.{NewNode}
-use Rattle.graph_script.specs.declared.reading.Said.{Said}
+use Rattle.graph_script.specs.declared.reading.ParsedLine.{ParsedLine}
 use Rattle.graph_script.specs.declared.reading.Reading.{Reading}
 use Rattle.graph_script.specs.declared.progress.Progress.{Progress}
 use Rattle.graph_script.specs.Earlier.{is_epoch}
 
 -- what a line says that makes this node
-abbrev pub said_of : NewNode → Said
-said_of new =
+abbrev pub parsed_of : NewNode → ParsedLine
+parsed_of new =
     record { command = new.command; made = Some (record { name = new.name.now; kind = new.kind }) }
 
 -- the nodes that are linked after a command

@@ -20,7 +20,7 @@ pub record IsSound (reading : Reading) : Type 0 where
 
 -- and what is kept beside them is read off them: which nodes a link line names, and the number of
 -- epochs
-pub record IsTied (progress : Progress) : Type 0 where
+pub record IsConsistent (progress : Progress) : Type 0 where
   pub sound : IsSound progress.reading
   pub length : length progress.linked ≡ 64
   pub linked : (n : ℕ) → n < 64

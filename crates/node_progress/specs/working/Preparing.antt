@@ -10,7 +10,7 @@ use Rattle.cycle_model.specs.Epochs.{all_cycles}
 use Rattle.cycle_model.specs.Progress.{nothing}
 use Rattle.node_state.specs.declared.node_state.NodeState.{NodeState}
 use Rattle.node_state.specs.StandsFor.{StandsFor, node_kind, node_wave_channels, node_quantum, frames_so_far, prepared_frames, most_channels}
-use Rattle.node_progress.specs.declared.score.Score.{Score}
+use Rattle.node_progress.specs.declared.run_model.RunModel.{RunModel}
 use Rattle.node_progress.specs.Standing.{read_by, worked}
 use Rattle.node_progress.specs.NodeStates.{wave_channels_of}
 
@@ -25,13 +25,14 @@ wav_of waves n = option_map (λ w. w.wav) (find (λ w. w.node == n) waves)
 
 -- a state made for all cycles that the node n works in the run, with the greatest channels that an
 -- epoch gives its first input, which has received nothing
-pub record IsPreparedNode (score : Score) (n : ℕ) (s : NodeState) : Type 0 where
-  pub kind : node_kind s ≡ kind_at score.plan.value n
-  pub wave : node_wave_channels s ≡ wave_channels_of score.waves.value n
-  pub quantum : 0 < length score.plan.value.epochs
-      → node_quantum s ≡ score.plan.value.quantum
+pub record IsPreparedNode (run_model : RunModel) (n : ℕ) (s : NodeState) : Type 0 where
+  pub kind : node_kind s ≡ kind_at run_model.plan.value n
+  pub wave : node_wave_channels s ≡ wave_channels_of run_model.waves.value n
+  pub quantum : 0 < length run_model.plan.value.epochs
+      → node_quantum s ≡ run_model.plan.value.quantum
   pub frames : frames_so_far s ≡ 0
   pub prepared : prepared_frames s
-      ≡ score.plan.value.quantum * worked score.plan.value n (all_cycles score.plan.value)
-  pub most : IsMostNamed score.plan.value n (most_channels s)
-  pub stands : StandsFor s (read_by score n s nothing)
+      ≡ run_model.plan.value.quantum * worked run_model.plan.value n
+      (all_cycles run_model.plan.value)
+  pub most : IsMostNamed run_model.plan.value n (most_channels s)
+  pub stands : StandsFor s (read_by run_model n s nothing)

@@ -16,8 +16,8 @@ module _ (shared : Shared) where
     pub loop : IsLoop c
     pub boards_are : HasBoards 0 shared.boards c
     pub none : HasNoDriver c
-    pub plan_is : plan_of c ≡ shared.score.plan.value
-    pub waves_are : c.score.waves.value ≡ shared.score.waves.value
+    pub plan_is : plan_of c ≡ shared.run_model.plan.value
+    pub waves_are : c.run_model.waves.value ≡ shared.run_model.waves.value
 
   -- those on the shelf, as many as the seating has seats beside the driver's own
   pub record AreCells : Type 0 where

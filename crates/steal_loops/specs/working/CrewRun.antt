@@ -9,14 +9,14 @@ use Rattle.steal_shelf.specs.Seats.{cells_of}
 use Rattle.steal_loops.specs.declared.crew.EndedCells.{EndedCells}
 use Rattle.steal_loops.specs.declared.crew.LeadState.{LeadState}
 use Rattle.steal_loops.specs.declared.shared.Shared.{Shared}
-use Rattle.steal_loops.specs.declared.taker.Taker.{Taker}
+use Rattle.steal_loops.specs.declared.claimant.Claimant.{Claimant}
 use Rattle.steal_loops.specs.working.Cells.{AreCells}
-use Rattle.steal_loops.specs.working.Takers.{IsWorker, IsDriverTaker}
+use Rattle.steal_loops.specs.working.Claimants.{IsWorker, IsDriverClaimant}
 use Rattle.steal_loops.specs.working.Crews.{CanDrive, HasNode}
 
 module _ (shared : Shared) where
   -- BEFORE THE RUN: a worker of its cells
-  pub record CanStart (t : Taker) : Type 0 where
+  pub record CanStart (t : Claimant) : Type 0 where
     pub cells : AreCells shared
     pub worker : IsWorker shared t
 
@@ -24,7 +24,7 @@ module _ (shared : Shared) where
   pub record CanLead (l : LeadState) : Type 0 where
     pub cells : AreCells shared
     pub can_drive : CanDrive shared l.driving
-    pub nodes : (n : ℕ) → n < length shared.score.plan.value.nodes
+    pub nodes : (n : ℕ) → n < length shared.run_model.plan.value.nodes
         → HasNode l.driving.own (cells_of shared.shelf) n
     pub bare : l.done.list ≡ []
     pub room : length (cells_of shared.shelf) < l.done.spare
@@ -35,11 +35,11 @@ module _ (shared : Shared) where
     pub drivers : HaveLed (length shared.boards) shared.boards l.driving.drivers
         led.driving.drivers
     pub looked : HaveLooked l.driving.drivers led.driving.drivers m n
-    pub taker : IsDriverTaker shared led.driving.taker
+    pub claimant : IsDriverClaimant shared led.driving.claimant
     pub done : led.done ≡ l.done
 
   -- AFTER IT all cells have done so too
   pub record HaveEnded (l : LeadState) (e : EndedCells) (m n : ℕ) : Type 0 where
-    pub done : AreDone shared.score.plan.value shared.score.waves.value e.done
+    pub done : AreDone shared.run_model.plan.value shared.run_model.waves.value e.done
     pub drivers : HaveLed (length shared.boards) shared.boards l.driving.drivers e.drivers
     pub looked : HaveLooked l.driving.drivers e.drivers m n

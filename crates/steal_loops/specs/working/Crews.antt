@@ -6,7 +6,7 @@ use Rattle.std.specs.List.{enumerate_from}
 use Rattle.pw_graph.specs.declared.plan.Plan.{Plan}
 use Rattle.wav_files.specs.declared.wav.WavIn.{WavIn}
 use Rattle.board_rule.specs.Known.{Known}
-use Rattle.node_progress.specs.declared.score.Score.{Score}
+use Rattle.node_progress.specs.declared.run_model.RunModel.{RunModel}
 use Rattle.data_loop.specs.declared.loop_state.LoopState.{LoopState}
 use Rattle.data_loop.specs.Loops.{plan_of}
 use Rattle.graph_run.specs.Assignment.{cell_number, cell_count}
@@ -20,7 +20,7 @@ use Rattle.steal_loops.specs.declared.opening.Opened.{Opened}
 use Rattle.steal_loops.specs.declared.preparing.Prepared.{Prepared}
 use Rattle.steal_loops.specs.declared.shared.Shared.{Shared}
 use Rattle.steal_loops.specs.working.Cells.{AreCells}
-use Rattle.steal_loops.specs.working.Takers.{IsWorker, IsDriverTaker}
+use Rattle.steal_loops.specs.working.Claimants.{IsWorker, IsDriverClaimant}
 
 -- OPENED: the boards of the plan, with a seat for each cell and one for the driver's own loop; the
 -- cells and that loop are ready to run on them
@@ -30,8 +30,8 @@ pub record IsOpened (plan : Plan) (waves : List WavIn) (o : Opened) : Type 0 whe
       ≡ map (epoch_board (cell_number plan) (cell_count plan)) plan.epochs
   pub drivers : o.drivers
       ≡ map (driver_of plan waves (cell_count plan)) (enumerate_from 0 o.boards)
-  pub leads : (score : Score) → score.plan.value ≡ plan → score.waves.value ≡ waves
-      → AreFirstLeads score o.boards o.drivers
+  pub leads : (run_model : RunModel) → run_model.plan.value ≡ plan → run_model.waves.value ≡ waves
+      → AreFirstLeads run_model o.boards o.drivers
   pub ready : AreReady o.boards (cell_count plan) (o.cells ++ o.own ∷ [])
   pub rows : List (List Known)
   pub are : AreLoopsOf plan waves (cell_number plan) rows (o.cells ++ o.own ∷ [])
@@ -40,10 +40,10 @@ pub record IsOpened (plan : Plan) (waves : List WavIn) (o : Opened) : Type 0 whe
 pub record CanDrive (shared : Shared) (d : Driving) : Type 0 where
   pub ready : IsReady shared.boards d.own
   pub has : HasDrivers d.own
-  pub leads : AreFirstLeads d.own.score shared.boards d.drivers
-  pub taker : IsDriverTaker shared d.taker
-  pub plan_is : plan_of d.own ≡ shared.score.plan.value
-  pub waves_are : d.own.score.waves.value ≡ shared.score.waves.value
+  pub leads : AreFirstLeads d.own.run_model shared.boards d.drivers
+  pub claimant : IsDriverClaimant shared d.claimant
+  pub plan_is : plan_of d.own ≡ shared.run_model.plan.value
+  pub waves_are : d.own.run_model.waves.value ≡ shared.run_model.waves.value
 
 -- a node is one of the driver's own loop, or of a cell
 abbrev pub HasNode : LoopState → List LoopState → ℕ → Type 0
@@ -54,8 +54,8 @@ HasNode own cells n = Contains own.nodes n ⊎ ((i : ℕ) × (i < length cells)
 -- or of the driver's own loop
 pub record IsPrepared (plan : Plan) (waves : List WavIn) (loops : ℕ)
     (r : Prepared) : Type 0 where
-  pub plan_is : r.shared.score.plan.value ≡ plan
-  pub waves_are : r.shared.score.waves.value ≡ waves
+  pub plan_is : r.shared.run_model.plan.value ≡ plan
+  pub waves_are : r.shared.run_model.waves.value ≡ waves
   pub shapes : map (λ b. b.board_shape) r.shared.boards
       ≡ map (epoch_board (cell_number plan) (cell_count plan)) plan.epochs
   pub drivers : r.driving.drivers

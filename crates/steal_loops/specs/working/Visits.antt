@@ -7,7 +7,7 @@ use Rattle.driver_cycle.specs.Waking.{HasSent}
 use Rattle.steal_shelf.specs.working.CellSteps.{HasStepped}
 use Rattle.steal_shelf.specs.Seats.{IsAllowed, LacksCell, HasFoundOut}
 use Rattle.steal_loops.specs.declared.shared.Shared.{Shared}
-use Rattle.steal_loops.specs.declared.taker.Taker.{Taker}
+use Rattle.steal_loops.specs.declared.claimant.Claimant.{Claimant}
 use Rattle.steal_loops.specs.declared.visiting.Visited.{Visited}
 use Rattle.steal_loops.specs.declared.visiting.Visited.TheVariants.{Out, Ended, Stepped}
 use Rattle.steal_loops.specs.working.Cells.{HasFinished}
@@ -15,7 +15,7 @@ use Rattle.steal_loops.specs.working.NodeSets.{IsBut}
 
 -- A STEP: the cell was found so, made one step, was put back, and what it woke was sent, but for
 -- the node that the thread keeps
-pub record HasMadeStep (shared : Shared) (i : ℕ) (a b : Taker) : Type 0 where
+pub record HasMadeStep (shared : Shared) (i : ℕ) (a b : Claimant) : Type 0 where
   pub found : LoopState
   pub back : LoopState
   pub allowed : IsAllowed shared.shelf i found
@@ -27,7 +27,7 @@ pub record HasMadeStep (shared : Shared) (i : ℕ) (a b : Taker) : Type 0 where
 
 -- THE VISIT of the cell i, by what became of it: another has it; it was at its end and was put
 -- back; or a step was made
-abbrev pub HasVisited : Shared → ℕ → Visited → Taker → Taker → Type 0
+abbrev pub HasVisited : Shared → ℕ → Visited → Claimant → Claimant → Type 0
 HasVisited shared i Out a b = HasFoundOut i a.seat b.seat × (b.way ≡ a.way)
 HasVisited shared i Ended a b = HasFinished shared i × LacksCell b.seat i × (b.way ≡ a.way)
 HasVisited shared i (Stepped did) a b = HasMadeStep shared i a b

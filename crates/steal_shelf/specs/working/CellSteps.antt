@@ -9,9 +9,9 @@ use Rattle.data_loop.specs.LoopWay.{IsAmid}
 
 -- A STEP: a turn on the board of its epoch, or the way into the next one
 pub record HasStepped (boards : List Board) (s t : LoopState) : Type 0 where
-  pub score : t.score ≡ s.score
+  pub run_model : t.run_model ≡ s.run_model
   pub nodes : t.nodes ≡ s.nodes
-  pub stages : (j : ℕ) → s.epoch < j
-      → slice_get t.stages.items j ≡ slice_get s.stages.items j
+  pub epoch_states : (j : ℕ) → s.epoch < j
+      → slice_get t.epoch_states.items j ≡ slice_get s.epoch_states.items j
   pub went : ((t.epoch ≡ s.epoch) × IsAmid boards t)
       ⊎ ((t.epoch ≡ s.epoch + 1) × IsBetweenEpochs t)

@@ -21,7 +21,7 @@ use Rattle.data_loop.proofs.SumLemmas.{all_zeros}
 use Rattle.data_loop.proofs.gathering.gather_in.Goals as goal
 
 pub read_input-requires-clause-phase : goal.read_input-requires-clause-phase
-read_input-requires-clause-phase g c = let at = c.args.moment.now in let p : BoardLayout = layout_of at.board.now.board_shape in let m : Member = c.args.member.now in
+read_input-requires-clause-phase g c = let at = c.args.turn_context.now in let p : BoardLayout = layout_of at.board.now.board_shape in let m : Member = c.args.member.now in
     let inputs : List Input = m.inputs in let is = c.as_slice-inputs.ensures in let b = g.S.BoardSeat.is_driver in
     let v : View = g.S.BoardSeat.knows c.args.seat.now in let r = c.requires in
     let l = c.in-Some.link in
@@ -29,7 +29,7 @@ read_input-requires-clause-phase g c = let at = c.args.moment.now in let p : Boa
     let may = MayReadInput b p v in All-head may l [] (subst (All may) (links_only l inputs only) r.phase.0)
 
 pub read_input-requires-clause-long : goal.read_input-requires-clause-long
-read_input-requires-clause-long g c = let at = c.args.moment.now in let p : BoardLayout = layout_of at.board.now.board_shape in let m : Member = c.args.member.now in
+read_input-requires-clause-long g c = let at = c.args.turn_context.now in let p : BoardLayout = layout_of at.board.now.board_shape in let m : Member = c.args.member.now in
     let inputs : List Input = m.inputs in let is = c.as_slice-inputs.ensures in let b = g.S.BoardSeat.is_driver in
     let v : View = g.S.BoardSeat.knows c.args.seat.now in let r = c.requires in
     let l = c.in-Some.link in
@@ -38,7 +38,7 @@ read_input-requires-clause-long g c = let at = c.args.moment.now in let p : Boar
     long_a ∙ all_only l (λ k. m.first_width ≡ quantum_of p (pool_of p k)) inputs only r.long
 
 pub returns-in-Some-clause-knows : goal.returns-in-Some-clause-knows
-returns-in-Some-clause-knows g c = let at = c.args.moment.now in let p : BoardLayout = layout_of at.board.now.board_shape in let m : Member = c.args.member.now in
+returns-in-Some-clause-knows g c = let at = c.args.turn_context.now in let p : BoardLayout = layout_of at.board.now.board_shape in let m : Member = c.args.member.now in
     let inputs : List Input = m.inputs in let is = c.as_slice-inputs.ensures in let b = g.S.BoardSeat.is_driver in
     let v : View = g.S.BoardSeat.knows c.args.seat.now in let r = c.requires in
     let l = c.in-Some.link in
@@ -50,7 +50,7 @@ returns-in-Some-clause-knows g c = let at = c.args.moment.now in let p : BoardLa
     (one_more b p v (l ∷ []) may 0 v (omega arith) (none_read b p v (l ∷ []) may) w c.read_input.ensures.knows)
 
 pub returns-in-Some-clause-a : goal.returns-in-Some-clause-a
-returns-in-Some-clause-a g c = let at = c.args.moment.now in let p : BoardLayout = layout_of at.board.now.board_shape in let m : Member = c.args.member.now in
+returns-in-Some-clause-a g c = let at = c.args.turn_context.now in let p : BoardLayout = layout_of at.board.now.board_shape in let m : Member = c.args.member.now in
     let inputs : List Input = m.inputs in let is = c.as_slice-inputs.ensures in let b = g.S.BoardSeat.is_driver in
     let v : View = g.S.BoardSeat.knows c.args.seat.now in let r = c.requires in
     let l = c.in-Some.link in
@@ -59,13 +59,13 @@ returns-in-Some-clause-a g c = let at = c.args.moment.now in let p : BoardLayout
     let n = m.first_width in let a : List ℤ = c.read_input.new.to in let e = c.read_input.ensures in
     let zeros : List ℤ = replicate n (pos 0) in let long = length-replicate n (pos 0) in let same = c.read_input.auto.to ∙ long_a in
     front_is n a c.args.a.now same
-    ∙ first_comes b at.score.now p r.pooled v at.cycle m.node _ _ _ r.reads zeros a long (all_zeros n)
+    ∙ first_comes b at.run_model.now p r.pooled v at.cycle m.node _ _ _ r.reads zeros a long (all_zeros n)
     (sym (ap (λ rows. map clamped (fold summed zeros rows)) (first_only l b p v inputs only ∙ ap (λ x. x ∷ []) (sym e.samples))
     ∙ ap (map clamped) (zeros_summed zeros a (all_zeros n) (same ∙ sym long)) ∙ e.clamped))
     (same ∙ sym long)
 
 pub returns-in-Some-clause-b : goal.returns-in-Some-clause-b
-returns-in-Some-clause-b g c = let at = c.args.moment.now in let p : BoardLayout = layout_of at.board.now.board_shape in let m : Member = c.args.member.now in
+returns-in-Some-clause-b g c = let at = c.args.turn_context.now in let p : BoardLayout = layout_of at.board.now.board_shape in let m : Member = c.args.member.now in
     let inputs : List Input = m.inputs in let is = c.as_slice-inputs.ensures in let b = g.S.BoardSeat.is_driver in
     let v : View = g.S.BoardSeat.knows c.args.seat.now in let r = c.requires in
     let l = c.in-Some.link in
@@ -74,32 +74,32 @@ returns-in-Some-clause-b g c = let at = c.args.moment.now in let p : BoardLayout
     let n = m.second_width in let zeros : List ℤ = replicate n (pos 0) in let long = length-replicate n (pos 0) in
     let same = c.fill.ensures.len ∙ long_b in
     front_is n c.fill.new.self c.args.b.now same
-    ∙ second_comes b at.score.now p r.pooled v at.cycle m.node _ _ _ r.reads zeros c.fill.new.self long (all_zeros n)
+    ∙ second_comes b at.run_model.now p r.pooled v at.cycle m.node _ _ _ r.reads zeros c.fill.new.self long (all_zeros n)
     (c.fill.ensures.after (λ y h. h) ∙ ap (λ k. replicate k (pos 0)) long_b ∙ sym (silence_clamped n)
     ∙ ap (λ rows. map clamped (fold summed zeros rows)) (sym (second_only l b p v inputs only)))
     (same ∙ sym long)
 
 pub read_inputs-requires-clause-phase : goal.read_inputs-requires-clause-phase
-read_inputs-requires-clause-phase g c = let at = c.args.moment.now in let p : BoardLayout = layout_of at.board.now.board_shape in let m : Member = c.args.member.now in
+read_inputs-requires-clause-phase g c = let at = c.args.turn_context.now in let p : BoardLayout = layout_of at.board.now.board_shape in let m : Member = c.args.member.now in
     let inputs : List Input = m.inputs in let is = c.as_slice-inputs.ensures in let b = g.S.BoardSeat.is_driver in
     let v : View = g.S.BoardSeat.knows c.args.seat.now in let r = c.requires in
     subst (λ (x : List Input). MayReadAll b p v (links_of x)) (sym is) r.phase
 
 pub read_inputs-requires-clause-few : goal.read_inputs-requires-clause-few
-read_inputs-requires-clause-few g c = let at = c.args.moment.now in let p : BoardLayout = layout_of at.board.now.board_shape in let m : Member = c.args.member.now in
+read_inputs-requires-clause-few g c = let at = c.args.turn_context.now in let p : BoardLayout = layout_of at.board.now.board_shape in let m : Member = c.args.member.now in
     let inputs : List Input = m.inputs in let is = c.as_slice-inputs.ensures in let b = g.S.BoardSeat.is_driver in
     let v : View = g.S.BoardSeat.knows c.args.seat.now in let r = c.requires in
     subst (λ (x : List Input). length x ≤ links_limit) (sym is) r.few
 
 pub read_inputs-requires-clause-long : goal.read_inputs-requires-clause-long
-read_inputs-requires-clause-long g c = let at = c.args.moment.now in let p : BoardLayout = layout_of at.board.now.board_shape in let m : Member = c.args.member.now in
+read_inputs-requires-clause-long g c = let at = c.args.turn_context.now in let p : BoardLayout = layout_of at.board.now.board_shape in let m : Member = c.args.member.now in
     let inputs : List Input = m.inputs in let is = c.as_slice-inputs.ensures in let b = g.S.BoardSeat.is_driver in
     let v : View = g.S.BoardSeat.knows c.args.seat.now in let r = c.requires in
     subst (λ (x : ℕ × List Input). AreLong p x.0 x.1)
     (λ i. (sym (length-take-le m.first_width c.args.a.now r.first_row.1) i, sym is i)) r.long
 
 pub read_inputs-requires-clause-first : goal.read_inputs-requires-clause-first
-read_inputs-requires-clause-first g c = let at = c.args.moment.now in let p : BoardLayout = layout_of at.board.now.board_shape in let m : Member = c.args.member.now in
+read_inputs-requires-clause-first g c = let at = c.args.turn_context.now in let p : BoardLayout = layout_of at.board.now.board_shape in let m : Member = c.args.member.now in
     let inputs : List Input = m.inputs in let is = c.as_slice-inputs.ensures in let b = g.S.BoardSeat.is_driver in
     let v : View = g.S.BoardSeat.knows c.args.seat.now in let r = c.requires in
     let zeros = c.fill-2.ensures.after (λ y h. h) in
@@ -109,7 +109,7 @@ read_inputs-requires-clause-first g c = let at = c.args.moment.now in let p : Bo
     )
 
 pub read_inputs-requires-clause-second : goal.read_inputs-requires-clause-second
-read_inputs-requires-clause-second g c = let at = c.args.moment.now in let p : BoardLayout = layout_of at.board.now.board_shape in let m : Member = c.args.member.now in
+read_inputs-requires-clause-second g c = let at = c.args.turn_context.now in let p : BoardLayout = layout_of at.board.now.board_shape in let m : Member = c.args.member.now in
     let inputs : List Input = m.inputs in let is = c.as_slice-inputs.ensures in let b = g.S.BoardSeat.is_driver in
     let v : View = g.S.BoardSeat.knows c.args.seat.now in let r = c.requires in
     let zeros = c.fill-3.ensures.after (λ y h. h) in
@@ -120,20 +120,20 @@ read_inputs-requires-clause-second g c = let at = c.args.moment.now in let p : B
     )
 
 pub returns-clause-knows : goal.returns-clause-knows
-returns-clause-knows g c = let at = c.args.moment.now in let p : BoardLayout = layout_of at.board.now.board_shape in let m : Member = c.args.member.now in
+returns-clause-knows g c = let at = c.args.turn_context.now in let p : BoardLayout = layout_of at.board.now.board_shape in let m : Member = c.args.member.now in
     let inputs : List Input = m.inputs in let is = c.as_slice-inputs.ensures in let b = g.S.BoardSeat.is_driver in
     let v : View = g.S.BoardSeat.knows c.args.seat.now in let r = c.requires in
     subst (λ (x : List Input). AreRead b p v (links_of x) (g.S.BoardSeat.knows c.read_inputs.new.seat)) is c.read_inputs.ensures.knows
 
 pub returns-clause-a : goal.returns-clause-a
-returns-clause-a g c = let at = c.args.moment.now in let p : BoardLayout = layout_of at.board.now.board_shape in let m : Member = c.args.member.now in
+returns-clause-a g c = let at = c.args.turn_context.now in let p : BoardLayout = layout_of at.board.now.board_shape in let m : Member = c.args.member.now in
     let inputs : List Input = m.inputs in let is = c.as_slice-inputs.ensures in let b = g.S.BoardSeat.is_driver in
     let v : View = g.S.BoardSeat.knows c.args.seat.now in let r = c.requires in
     let long_a = length-take-le m.first_width c.args.a.now r.first_row.1 in
     let long = length-take-le m.first_width c.args.sum_a.now r.first_row.0 in
     let zeros : List ℤ = c.fill-2.new.self in let a : List ℤ = c.clamp_out.new.to in
     front_is m.first_width a c.args.a.now (c.clamp_out.auto.to ∙ c.read_inputs.auto.row ∙ long_a)
-    ∙ first_comes b at.score.now p r.pooled v at.cycle m.node _ _ _ r.reads zeros a
+    ∙ first_comes b at.run_model.now p r.pooled v at.cycle m.node _ _ _ r.reads zeros a
     (c.fill-2.ensures.len ∙ long)
     (subst (All IsZero) (sym (c.fill-2.ensures.after (λ y h. h))) (all_zeros (length (take m.first_width c.args.sum_a.now))))
     (c.clamp_out.ensures ∙ ap (map clamped) c.read_inputs.ensures.first
@@ -141,14 +141,14 @@ returns-clause-a g c = let at = c.args.moment.now in let p : BoardLayout = layou
     (c.clamp_out.auto.to ∙ c.read_inputs.auto.row ∙ long_a ∙ sym (c.fill-2.ensures.len ∙ long))
 
 pub returns-clause-b : goal.returns-clause-b
-returns-clause-b g c = let at = c.args.moment.now in let p : BoardLayout = layout_of at.board.now.board_shape in let m : Member = c.args.member.now in
+returns-clause-b g c = let at = c.args.turn_context.now in let p : BoardLayout = layout_of at.board.now.board_shape in let m : Member = c.args.member.now in
     let inputs : List Input = m.inputs in let is = c.as_slice-inputs.ensures in let b = g.S.BoardSeat.is_driver in
     let v : View = g.S.BoardSeat.knows c.args.seat.now in let r = c.requires in
     let long_b = length-take-le m.second_width c.args.b.now r.second_row.1 in
     let long = length-take-le m.second_width c.args.sum_b.now r.second_row.0 in
     let zeros : List ℤ = c.fill-3.new.self in let a : List ℤ = c.clamp_out-2.new.to in
     front_is m.second_width a c.args.b.now (c.clamp_out-2.auto.to ∙ long_b)
-    ∙ second_comes b at.score.now p r.pooled v at.cycle m.node _ _ _ r.reads zeros a
+    ∙ second_comes b at.run_model.now p r.pooled v at.cycle m.node _ _ _ r.reads zeros a
     (c.fill-3.ensures.len ∙ long)
     (subst (All IsZero) (sym (c.fill-3.ensures.after (λ y h. h))) (all_zeros (length (take m.second_width c.args.sum_b.now))))
     (c.clamp_out-2.ensures ∙ ap (map clamped) c.read_inputs.ensures.second

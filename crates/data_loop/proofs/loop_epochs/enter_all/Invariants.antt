@@ -8,6 +8,6 @@ abbrev pub invariant-loop-j : goal.invariant-loop-j
 invariant-loop-j l = record {
   count : length l.states ≡ length l.nodes;
   entered : (j : ℕ) (d : NodeState) → j < l.j
-      → IsNodeState l.score (suc l.epoch) (next_first l.score.plan.value l.epoch) (get_or l.nodes j 0) (get_or l.states j d);
+      → IsNodeState l.run_model (suc l.epoch) (next_first l.run_model.plan.value l.epoch) (get_or l.nodes j 0) (get_or l.states j d);
   left : (j : ℕ) (d : NodeState) → l.j ≤ j → get_or l.states j d ≡ get_or l.fn.states j d;
 }

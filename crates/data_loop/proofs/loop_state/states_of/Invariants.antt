@@ -3,4 +3,4 @@ use Rattle.data_loop.specs.LoopStart.{AreFirstStates}
 use Rattle.data_loop.proofs.loop_state.states_of.Given as goal
 
 abbrev pub invariant-loop-node : goal.invariant-loop-node
-invariant-loop-node l = AreFirstStates l.score (take l.node-index l.nodes) l.states
+invariant-loop-node l = AreFirstStates l.run_model (take l.node-index l.nodes) l.states

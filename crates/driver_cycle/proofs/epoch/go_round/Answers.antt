@@ -1,15 +1,15 @@
 use Rattle.std.proofs.Common.{refl}
 use Rattle.board_rule.specs.OnBoard.{layout, table_of}
-use Rattle.driver_cycle.proofs.ThreadLemmas.{tied_same, gone_round}
+use Rattle.driver_cycle.proofs.ThreadLemmas.{led_so_far_same, gone_round}
 use Rattle.driver_cycle.proofs.epoch.go_round.Goals as goal
 
-pub lead_once-ended-requires-clause-tied : goal.lead_once-ended-requires-clause-tied
-lead_once-ended-requires-clause-tied g c = let v = c.args.seat.now.knows in
-    tied_same (layout c.args.at.now.board.now) (table_of c.args.at.now.board.now) c.args.own.now c.turn_one-own_ran.new.state v v c.requires.thread.stands
-    c.turn_one-own_ran.ensures.turned refl c.requires.thread.tied
+pub lead_once-ended-requires-clause-led_so_far : goal.lead_once-ended-requires-clause-led_so_far
+lead_once-ended-requires-clause-led_so_far g c = let v = c.args.seat.now.knows in
+    led_so_far_same (layout c.args.at.now.board.now) (table_of c.args.at.now.board.now) c.args.own.now c.turn_one-own_ran.new.state v v c.requires.thread.stands
+    c.turn_one-own_ran.ensures.turned refl c.requires.thread.led_so_far
 
 pub returns-clause-gone : goal.returns-clause-gone
 returns-clause-gone g c = let e = c.lead_once-ended.ensures in
     gone_round c.args.at.now.board.now c.args.seat.now c.lead_once-ended.new.seat c.args.own.now c.turn_one-own_ran.new.state c.lead_once-ended.new.own c.args.adopted.now
     c.turn_all-another_ran.new.states (g.K.Ticker.ticks c.args.ticker.now) (g.K.Ticker.ticks c.lead_once-ended.new.ticker) c.requires.thread
-    c.turn_one-own_ran.ensures.turned c.turn_all-another_ran.ensures.turned e.leads e.stands e.same e.tied e.looked
+    c.turn_one-own_ran.ensures.turned c.turn_all-another_ran.ensures.turned e.leads e.stands e.same e.led_so_far e.looked

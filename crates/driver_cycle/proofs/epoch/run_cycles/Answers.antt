@@ -17,7 +17,7 @@ loop-seat-preserved g c = let b = c.args.at.now.board.now in let a = c.loop-seat
       gone = more_rounds b c.args.seat.now c.args.own.now c.args.adopted.now (g.K.Ticker.ticks c.args.ticker.now) a.seat a.own a.adopted m
           a.invariant.gone c.run_cycle.new.seat c.run_cycle.new.own c.run_cycle.new.adopted (g.K.Ticker.ticks c.run_cycle.new.ticker)
           (more_rounds b a.seat a.own a.adopted m s a.own a.adopted m
-          (begun_on b a.seat s a.own a.adopted m thread (c.begin_sent.ensures.leads a.own.score a.own.epoch thread.leads)
+          (begun_on b a.seat s a.own a.adopted m thread (c.begin_sent.ensures.leads a.own.run_model a.own.epoch thread.leads)
           c.loop-seat-test.ensures.begun.1)
           c.run_cycle.new.seat c.run_cycle.new.own c.run_cycle.new.adopted (g.K.Ticker.ticks c.run_cycle.new.ticker) c.run_cycle.ensures.gone);
       between = c.run_cycle.ensures.between;
@@ -27,7 +27,7 @@ loop-seat-preserved g c = let b = c.args.at.now.board.now in let a = c.loop-seat
 pub run_cycle-requires-clause-thread : goal.run_cycle-requires-clause-thread
 run_cycle-requires-clause-thread g c = let b = c.args.at.now.board.now in let a = c.loop-seat in let thread = a.invariant.gone.thread in
     (begun_on b a.seat c.begin_sent.new.seat a.own a.adopted (g.K.Ticker.ticks a.ticker) thread
-    (c.begin_sent.ensures.leads a.own.score a.own.epoch thread.leads) c.loop-seat-test.ensures.begun.1).thread
+    (c.begin_sent.ensures.leads a.own.run_model a.own.epoch thread.leads) c.loop-seat-test.ensures.begun.1).thread
 
 pub returns-clause-gone : goal.returns-clause-gone
 returns-clause-gone g c = let a = c.loop-seat in let e = c.loop-seat-test.ensures in let ticks = g.K.Ticker.ticks in

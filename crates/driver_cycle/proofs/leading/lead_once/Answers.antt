@@ -12,6 +12,6 @@ conclude-requires-clause-awake g c = let p = layout c.args.board.now in let w = 
     (woken_may p c.args.seat.now.knows w c.requires.waits c.requires.leads.even is)
 
 pub returns-in-NotYet-clause-leads : goal.returns-in-NotYet-clause-leads
-returns-in-NotYet-clause-leads g c = c.look_once.ensures.leads c.args.own.now.score c.args.own.now.epoch
-    (tried_leads c.args.own.now.score c.args.own.now.epoch c.args.board.now c.args.seat.now c.claim_driver.new.seat
+returns-in-NotYet-clause-leads g c = c.look_once.ensures.leads c.args.own.now.run_model c.args.own.now.epoch
+    (tried_leads c.args.own.now.run_model c.args.own.now.epoch c.args.board.now c.args.seat.now c.claim_driver.new.seat
     c.claim_driver.ensures.table c.requires.leads c.in-NotYet.found c.in-NotYet.ensures.claim.1)

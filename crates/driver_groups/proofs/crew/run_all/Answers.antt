@@ -4,7 +4,7 @@ use Rattle.std.specs.List.{AllZip}
 use Rattle.std.proofs.lemmas.List.{append_assoc, nil_from_length}
 use Rattle.std.proofs.lemmas.List.Elements.{All-head, All-tail}
 use Rattle.graph_run.specs.declared.ended.EndedRun.{EndedRun}
-use Rattle.graph_run.specs.RunStages.{CanRunAlone, HasRunAlone}
+use Rattle.graph_run.specs.RunStates.{CanRunAlone, HasRunAlone}
 use Rattle.driver_groups.specs.declared.crew.PlacedRun.{PlacedRun}
 use Rattle.driver_groups.proofs.GroupLemmas.{zip_push}
 use Rattle.driver_groups.proofs.crew.run_all.Goals as goal

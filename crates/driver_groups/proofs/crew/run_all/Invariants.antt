@@ -1,7 +1,7 @@
 use Rattle.std.proofs.Common.{◌≡◌, ◌≤◌, ◌++◌, length}
 use Rattle.std.specs.Prelude.{All}
 use Rattle.std.specs.List.{AllZip}
-use Rattle.graph_run.specs.RunStages.{CanRunAlone, HasRunAlone}
+use Rattle.graph_run.specs.RunStates.{CanRunAlone, HasRunAlone}
 use Rattle.driver_groups.proofs.crew.run_all.Given as goal
 
 abbrev pub invariant-loop-one : goal.invariant-loop-one

@@ -4,7 +4,7 @@ use Rattle.std.proofs.alloc.Global.TheSendSync as heap
 use Rattle.std.proofs.Common.{◌∙◌, List, ◌∷◌, length, false, sym, ap, subst}
 use Rattle.std.specs.List.{AllZip}
 use Rattle.std.proofs.lemmas.List.{length-replicate}
-use Rattle.graph_run.specs.RunStages.{CanRunAlone}
+use Rattle.graph_run.specs.RunStates.{CanRunAlone}
 use Rattle.pw_graph.specs.declared.parts.Part.{Part}
 use Rattle.driver_groups.specs.declared.crew.PlacedRun.{PlacedRun}
 use Rattle.driver_groups.specs.working.Crew.{runs_of}

@@ -1,5 +1,5 @@
 use Rattle.std.proofs.Common.{◌∙◌}
-use Rattle.graph_run.proofs.RunStagesLemmas.{alone_from}
+use Rattle.graph_run.proofs.RunStatesLemmas.{alone_from}
 use Rattle.graph_run.proofs.alone.prepare_alone.Goals as goal
 
 pub returns : goal.returns

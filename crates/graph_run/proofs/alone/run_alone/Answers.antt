@@ -1,5 +1,5 @@
 use Rattle.std.proofs.Common.{◌∙◌, ◌∷◌, ◌++◌, [], ap}
-use Rattle.graph_run.proofs.RunStagesLemmas.{has_run_alone}
+use Rattle.graph_run.proofs.RunStatesLemmas.{has_run_alone}
 use Rattle.graph_run.proofs.alone.run_alone.Goals as goal
 
 pub returns : goal.returns

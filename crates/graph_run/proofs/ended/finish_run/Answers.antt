@@ -3,7 +3,7 @@ use Rattle.std.specs.Prelude.{All}
 use Rattle.wav_files.specs.declared.outcome.Kept.{Kept}
 use Rattle.wav_files.specs.WavWriting.{IsWave}
 use Rattle.cycle_model.proofs.KeptLemmas.{kept_is_wave}
-use Rattle.graph_run.proofs.RunStagesLemmas.{run_of_ended, ended_count, ended_events}
+use Rattle.graph_run.proofs.RunStatesLemmas.{run_of_ended, ended_count, ended_events}
 use Rattle.graph_run.proofs.ended.finish_run.Goals as goal
 
 pub answer-requires-clause-closed : goal.answer-requires-clause-closed

@@ -18,8 +18,8 @@ run_epoch-requires g c = let i = c.loop-k.invariant in let k = c.loop-k.k in let
     let here : slice_get bs k ≡ Some b = slice_get-get_or bs k b (omega (arith, low, end))
     ∙ ap Some (sym (c.index-as_slice-k.is ∙ ap (λ (l : List Board). get_or l k b) c.as_slice.ensures)) in
     let seat : Known = get_or c.loop-k.drivers k c.index-drivers-k.result in
-    let lead : IsFirstLead c.args.own.now.score k b seat =
-    subst (IsFirstLead c.args.own.now.score k b) (sym (i.led.left k c.index-drivers-k.result (omega arith)))
+    let lead : IsFirstLead c.args.own.now.run_model k b seat =
+    subst (IsFirstLead c.args.own.now.run_model k b) (sym (i.led.left k c.index-drivers-k.result (omega arith)))
     (c.requires.drivers.each k b c.index-drivers-k.result here) in
     let t : IsThread b seat c.loop-k.own c.loop-k.adopted =
     thread_begins bs k b here c.args.own.now c.loop-k.own c.requires.own i.own c.args.adopted.now c.loop-k.adopted
@@ -28,7 +28,7 @@ run_epoch-requires g c = let i = c.loop-k.invariant in let k = c.loop-k.k in let
       between = lead.between;
       stands = t.stands;
       driver = t.driver;
-      tied = t.tied;
+      led_so_far = t.led_so_far;
       adopted = t.adopted_stand;
       way = i.way;
     }

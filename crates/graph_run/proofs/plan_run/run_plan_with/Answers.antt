@@ -2,7 +2,7 @@ use Rattle.std.proofs.Common.{◌∙◌, arith}
 use denote.Param.Send.{sendable}
 use Rattle.graph_run.specs.Assignment.{loop_of}
 use Rattle.graph_run.proofs.PlanRunLemmas.{can_lead, done_of, shapes_are, have_ended, expects, no_checks}
-use Rattle.graph_run.proofs.RunStagesLemmas.{run_looked}
+use Rattle.graph_run.proofs.RunStatesLemmas.{run_looked}
 use Rattle.graph_run.proofs.SendLemmas.{loop_send, given_send, shared_sync}
 use Rattle.graph_run.proofs.plan_run.run_plan_with.Goals as goal
 

@@ -17,7 +17,7 @@ use Rattle.graph_run.proofs.preparing.prepare.Goals as goal
 pub returns : goal.returns
 returns c = let plan = c.args.plan.now in let waves = c.args.waves.now in let loops = c.args.loops in
     let all = c.in_ok-all.all in let made = c.in_ok-all.ensures in let w = c.in_ok-ways.ensures in
-    let shared : Shared = record { boards = all.boards; ways = c.in_ok-ways.ways; score = c.of.result } in
+    let shared : Shared = record { boards = all.boards; ways = c.in_ok-ways.ways; run_model = c.of.result } in
     let xs : List LoopState = c.pop.new.self in let own : LoopState = c.unwrap-own.result in
     let rows : List (List Known) = map (λ (r : Listed Known). r.list) all.seats.items in
     let whole : c.in_ok-states.states ≡ xs ++ own ∷ [] = c.pop.ensures.list ∙ ap (λ (o : Option LoopState). xs ++ option_to_list o) c.unwrap-own.ensures in
@@ -35,7 +35,7 @@ returns c = let plan = c.args.plan.now in let waves = c.args.waves.now in let lo
       can_start = all_start plan waves loops shared xs own rows ready are p v w.owner w.loops c.in_ok-ways.others w.ways c.in_ok-loops.loops
           pairs.states pairs.ways;
       can_drive = drives plan waves loops shared xs own rows ready are p v w.owner w.loops all.drivers c.in_ok-ways.way
-          (made.lead own.score is.plan_is is.waves_are) w.driver;
+          (made.lead own.run_model is.plan_is is.waves_are) w.driver;
       count = pair_count plan waves loops shared xs own rows ready are p v w.owner w.loops c.in_ok-ways.others w.ways c.in_ok-loops.loops
           pairs.states pairs.ways;
       nodes = all_nodes plan waves loops shared xs own rows ready are p v w.owner w.loops c.in_ok-ways.others w.ways c.in_ok-loops.loops

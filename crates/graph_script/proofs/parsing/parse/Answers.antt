@@ -10,11 +10,11 @@ use Rattle.graph_script.proofs.parsing.parse.Goals as goal
 pub loop-fault-init : goal.loop-fault-init
 unfolding script_of
 loop-fault-init c = record {
-  tied = c.start-progress.ensures.tied;
+  consistent = c.start-progress.ensures.consistent;
   numbered = omega arith;
-  before = subst (AreBefore 1) (sym c.start-progress.ensures.said) (All-nil _);
+  before = subst (AreBefore 1) (sym c.start-progress.ensures.parsed) (All-nil _);
   count = omega arith;
-  parsed = ap (λ r. script_from 1 r (lines_of c.args.bytes.now)) c.start-progress.ensures.said;
+  parsed = ap (λ r. script_from 1 r (lines_of c.args.bytes.now)) c.start-progress.ensures.parsed;
 }
 
 pub returns-in-Err-clause-parsed : goal.returns-in-Err-clause-parsed
@@ -32,20 +32,20 @@ returns-in-None-clause-parsed c =
     ∙ ends (c.loop-fault.number + 1) c.in-Ok.next.reading
 
 pub returns-in-None-clause-ranges : goal.returns-in-None-clause-ranges
-returns-in-None-clause-ranges c = c.in-Ok.ensures.tied.sound.script
+returns-in-None-clause-ranges c = c.in-Ok.ensures.consistent.sound.script
 
 pub returns-in-None-clause-kinds : goal.returns-in-None-clause-kinds
-returns-in-None-clause-kinds c = sound-kinds c.in-Ok.next.reading c.in-Ok.ensures.tied.sound
+returns-in-None-clause-kinds c = sound-kinds c.in-Ok.next.reading c.in-Ok.ensures.consistent.sound
 
 pub returns-in-None-clause-order : goal.returns-in-None-clause-order
-returns-in-None-clause-order c = c.in-Ok.ensures.tied.sound.order
+returns-in-None-clause-order c = c.in-Ok.ensures.consistent.sound.order
 
 pub loop-fault-preserved : goal.loop-fault-preserved
 loop-fault-preserved c =
     let more = rw c.in-Some.is at c.next_piece.ensures.pieces in
     let shorter = rw c.in-Some.is at c.next_piece.ensures.shorter in
     record {
-      tied = c.in-Ok.ensures.tied;
+      consistent = c.in-Ok.ensures.consistent;
       numbered = omega arith;
       before = c.in-Ok.ensures.before;
       count = omega (arith, shorter);

@@ -1,7 +1,7 @@
 use Rattle.std.proofs.Common.{◌∙◌, List, sym, ap, subst}
 use Rattle.std.specs.Prelude.{All}
 use Rattle.data_loop.specs.declared.loop_state.LoopState.{LoopState}
-use Rattle.node_progress.specs.declared.score.Score.{Score}
+use Rattle.node_progress.specs.declared.run_model.RunModel.{RunModel}
 use Rattle.graph_run.specs.LoopsOnPlan.{IsReady, HasNoDriver, AreReady, AreFirstLeads}
 use Rattle.graph_run.specs.Loops.{AreLoopsOf}
 use Rattle.graph_run.specs.Seating.{holder_of}
@@ -38,7 +38,7 @@ run_open-requires-clause-drivers g c = let s = c.in-Ok.seating in let boards = c
     (c.in-Ok-loops_of.ensures.ready boards c.in-Ok-boards_of.ensures.shapes c.in-Ok-boards_of.ensures.seats) in
     let is = own_is boards s.loops xs own ready c.args.work.now.plan _ (holder_of s) _
     (subst (AreLoopsOf c.args.work.now.plan _ (holder_of s) _) c.in-Some.ensures.list c.in-Ok-loops_of.ensures.of) in
-    subst (AreFirstLeads own.score boards) (sym c.as_mut_slice.ensures.value) (c.in-Ok-boards_of.ensures.lead own.score is.plan_is is.waves_are)
+    subst (AreFirstLeads own.run_model boards) (sym c.as_mut_slice.ensures.value) (c.in-Ok-boards_of.ensures.lead own.run_model is.plan_is is.waves_are)
 
 pub has_kept-requires-clause-plan_is : goal.has_kept-requires-clause-plan_is
 has_kept-requires-clause-plan_is g c = let s = c.in-Ok.seating in let boards = c.in-Ok-boards_of.all.boards in let xs : List LoopState = c.pop.new.self in let own : LoopState = c.in-Some.own in
@@ -46,7 +46,7 @@ has_kept-requires-clause-plan_is g c = let s = c.in-Ok.seating in let boards = c
     (c.in-Ok-loops_of.ensures.ready boards c.in-Ok-boards_of.ensures.shapes c.in-Ok-boards_of.ensures.seats) in
     let is = own_is boards s.loops xs own ready c.args.work.now.plan _ (holder_of s) _
     (subst (AreLoopsOf c.args.work.now.plan _ (holder_of s) _) c.in-Some.ensures.list c.in-Ok-loops_of.ensures.of) in
-    ap (λ (s : Score). s.plan.value) c.run_open.ensures.own.score ∙ is.plan_is
+    ap (λ (s : RunModel). s.plan.value) c.run_open.ensures.own.run_model ∙ is.plan_is
 
 pub has_kept-requires-clause-nodes_are : goal.has_kept-requires-clause-nodes_are
 has_kept-requires-clause-nodes_are g c = let s = c.in-Ok.seating in let boards = c.in-Ok-boards_of.all.boards in let xs : List LoopState = c.pop.new.self in let own : LoopState = c.in-Some.own in

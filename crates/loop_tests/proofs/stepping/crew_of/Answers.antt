@@ -16,5 +16,5 @@ returns c = let s = c.in-Ok.seating in let all = c.in-Ok-boards_of.all in let bo
     (subst (AreLoopsOf c.args.work.now.plan _ (holder_of s) _) whole c.in-Ok-loops_of.ensures.of) in
     let n = c.if-len-ne1.false in let m = c.len.ensures in
     first_crew boards c.pop.new.self c.in-Some.board c.in-Some.ensures.list (omega (arith, m, n)) all.drivers c.pop-2.new.self c.in-Some-pop.seat
-    c.in-Some-pop.ensures.list s.loops xs own ready (c.in-Ok-boards_of.ensures.lead own.score is.plan_is is.waves_are) _ refl refl
+    c.in-Some-pop.ensures.list s.loops xs own ready (c.in-Ok-boards_of.ensures.lead own.run_model is.plan_is is.waves_are) _ refl refl
     c.into_vec.ensures refl refl

@@ -41,6 +41,6 @@ returns c = let plan = c.args.plan.now in let n = c.args.node in let d = c.index
     let frames : c.from.result * c.worked_cycles.result ≡ plan.quantum * worked plan n (all_cycles plan) =
     (λ i. c.from.ensures i * c.worked_cycles.ensures i) ∙ frames_are plan r.sound n q.result q.ensures.is in
     answered c.prepare.result _ _ _ _ _ (λ s is wave numbers stands.
-    prepared_is c.args.score.now plan c.args.waves.now n r.plan_is r.waves_are s kd _ c.most_channels-most.result q.result _ kind
+    prepared_is c.args.run_model.now plan c.args.waves.now n r.plan_is r.waves_are s kd _ c.most_channels-most.result q.result _ kind
     c.wave_of-wave.ensures c.most_channels-most.ensures q.ensures.is frames is wave numbers stands)
     e.kind e.wave e.numbers e.stands

@@ -26,7 +26,7 @@ returns c = let plan = c.args.work.now.plan in let waves = c.args.work.now.waves
       driver = record {
         ready = own_ready all.boards loops xs own ready;
         has = own_has all.boards loops xs own ready;
-        leads = made.lead own.score is.plan_is is.waves_are;
+        leads = made.lead own.run_model is.plan_is is.waves_are;
         way = (w.driver.answered, w.driver.loop_is ∙ sym w.loops);
       };
     }

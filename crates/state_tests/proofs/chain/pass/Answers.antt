@@ -11,17 +11,17 @@ pub returns-then-not-works_in-clause-state : goal.returns-then-not-works_in-clau
 returns-then-not-works_in-clause-state c = let r = c.requires in let y = r.cycle in let k = c.args.epoch in let first = y.one.0 in let one = y.one.1 in
     let e = c.args.at.now in
     let end : e.shape.first + e.shape.cycles ≡ suc k = omega (arith, first, one) in
-    subst (λ j. IsNodeState c.args.score.now k j c.args.node c.args.state.now) end
-    (idle_through c.args.score.now k e c.args.node y.sound y.fit r.place y.at (sym c.works_in.ensures ∙ c.if-not-works_in.true)
-    c.args.state.now (subst (λ j. IsNodeState c.args.score.now k j c.args.node c.args.state.now) (sym first) r.state))
+    subst (λ j. IsNodeState c.args.run_model.now k j c.args.node c.args.state.now) end
+    (idle_through c.args.run_model.now k e c.args.node y.sound y.fit r.place y.at (sym c.works_in.ensures ∙ c.if-not-works_in.true)
+    c.args.state.now (subst (λ j. IsNodeState c.args.run_model.now k j c.args.node c.args.state.now) (sym first) r.state))
 
 pub work-requires : goal.work-requires
 work-requires c = let r = c.requires in let y = r.cycle in let k = c.args.epoch in let first = y.one.0 in let one = y.one.1 in
-    let score = c.args.score.now in let n = c.args.node in
+    let run_model = c.args.run_model.now in let n = c.args.node in
     let inputs = c.inputs_of.ensures ∙ ap (λ (p : Plan). input_count (kind_at p n)) (sym y.plan_is) in
     let few = c.if-inputs_of-gt1.false in
-    let past : nat_lt 1 (input_count (kind_at score.plan.value n)) ≡ false =
-    le-ltb 1 (input_count (kind_at score.plan.value n)) (omega (arith, inputs, few)) in
+    let past : nat_lt 1 (input_count (kind_at run_model.plan.value n)) ≡ false =
+    le-ltb 1 (input_count (kind_at run_model.plan.value n)) (omega (arith, inputs, few)) in
     record {
       may = record {
         works = record {
@@ -36,7 +36,7 @@ work-requires c = let r = c.requires in let y = r.cycle in let k = c.args.epoch 
         };
         state = r.state;
         a_is = r.a (sym c.works_in.ensures ∙ c.if-not-works_in.false);
-        b_is = sym (cond-false (nat_lt 1 (input_count (kind_at score.plan.value n))) _ [] past);
+        b_is = sym (cond-false (nat_lt 1 (input_count (kind_at run_model.plan.value n))) _ [] past);
         left_fits = subst (λ (p : Plan). IsOutputRow p c.args.at.now n 0 c.args.left.now) (sym y.plan_is)
             (c.is_row.ensures c.if-not-is_row.false c.args.left.now refl);
         right_fits = inl refl;

@@ -5,16 +5,16 @@ use Rattle.state_tests.proofs.ChainLemmas.{ends, next_is}
 use Rattle.state_tests.proofs.chain.step.Goals as goal
 
 pub enter_next-requires-clause-ended : goal.enter_next-requires-clause-ended
-enter_next-requires-clause-ended c = let score = c.args.score.now in let k = c.args.epoch in let n = c.args.node in let r = c.requires in
-    subst (λ m. IsEndOf score k m n) (sym (next_is score c.args.plan.now k c.args.at.now r.cycle n r.place))
-    (ends score c.args.plan.now k c.args.at.now r.cycle n r.place)
+enter_next-requires-clause-ended c = let run_model = c.args.run_model.now in let k = c.args.epoch in let n = c.args.node in let r = c.requires in
+    subst (λ m. IsEndOf run_model k m n) (sym (next_is run_model c.args.plan.now k c.args.at.now r.cycle n r.place))
+    (ends run_model c.args.plan.now k c.args.at.now r.cycle n r.place)
 
 pub enter_next-requires-clause-state : goal.enter_next-requires-clause-state
-enter_next-requires-clause-state c = let score = c.args.score.now in let k = c.args.epoch in let n = c.args.node in let r = c.requires in
-    subst (λ m. IsNodeState score k m n c.pass.new.state) (sym (next_is score c.args.plan.now k c.args.at.now r.cycle n r.place))
+enter_next-requires-clause-state c = let run_model = c.args.run_model.now in let k = c.args.epoch in let n = c.args.node in let r = c.requires in
+    subst (λ m. IsNodeState run_model k m n c.pass.new.state) (sym (next_is run_model c.args.plan.now k c.args.at.now r.cycle n r.place))
     c.in_ok-worked.ensures.state
 
 pub returns-clause-state : goal.returns-clause-state
-returns-clause-state c = let score = c.args.score.now in let k = c.args.epoch in let n = c.args.node in let r = c.requires in
-    subst (λ m. IsNodeState score (suc k) m n c.enter_next.new.state) (next_is score c.args.plan.now k c.args.at.now r.cycle n r.place)
+returns-clause-state c = let run_model = c.args.run_model.now in let k = c.args.epoch in let n = c.args.node in let r = c.requires in
+    subst (λ m. IsNodeState run_model (suc k) m n c.enter_next.new.state) (next_is run_model c.args.plan.now k c.args.at.now r.cycle n r.place)
     c.enter_next.ensures.state

@@ -1,4 +1,4 @@
-use Rattle.steal_loops.proofs.TakerLemmas.{at_end}
+use Rattle.steal_loops.proofs.ClaimantLemmas.{at_end}
 use Rattle.steal_loops.proofs.collecting.is_finished.Goals as goal
 
 pub returns-in-None-clause-finished : goal.returns-in-None-clause-finished

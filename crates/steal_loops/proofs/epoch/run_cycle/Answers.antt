@@ -5,7 +5,7 @@ use Rattle.data_loop.specs.declared.loop_state.LoopState.{LoopState}
 use Rattle.driver_cycle.specs.Leading.{IsBetween}
 use Rattle.driver_cycle.specs.Epochs.{HasGoneOn}
 use Rattle.driver_cycle.proofs.ThreadLemmas.{no_round, more_rounds}
-use Rattle.steal_loops.specs.working.Takers.{IsPatrol}
+use Rattle.steal_loops.specs.working.Claimants.{IsScan}
 use Rattle.steal_loops.proofs.epoch.run_cycle.Goals.{in-None, in-Some+then-go_round}
 use Rattle.steal_loops.proofs.epoch.run_cycle.Goals as goal
 
@@ -17,7 +17,7 @@ loop-init g c = record {
   waits = c.requires.waits;
   cycle = refl;
   checked = sym c.requires.unchecked;
-  patrol = c.requires.patrol;
+  scan = c.requires.scan;
 }
 
 pub loop-preserved : goal.loop-preserved
@@ -30,7 +30,7 @@ loop-preserved g c = let r = c.if-go_round.ensures.round in record {
   waits = r.0;
   cycle = r.1 ∙ c.loop.invariant.cycle;
   checked = r.2;
-  patrol = c.go_round.ensures.patrol;
+  scan = c.go_round.ensures.scan;
 }
 
 pub returns-clause-gone : goal.returns-clause-gone
@@ -51,8 +51,8 @@ returns-clause-between g c = elim c.match-next.branch [
   | in-Some+then-go_round w ↦ subst (λ (x : Known). IsBetween (layout c.args.at.now.board.now) x.knows) (sym w.seat-is) w.if-go_round.ensures.round.0
 ]
 
-pub returns-clause-patrol : goal.returns-clause-patrol
-returns-clause-patrol g c = elim c.match-next.branch [
+pub returns-clause-scan : goal.returns-clause-scan
+returns-clause-scan g c = elim c.match-next.branch [
   | in-None w ↦ absurd (true≢false (sym w.in-None.ensures.steps))
-  | in-Some+then-go_round w ↦ subst (IsPatrol c.args.at.now.shared.now) (sym w.patrol-is) w.go_round.ensures.patrol
+  | in-Some+then-go_round w ↦ subst (IsScan c.args.at.now.shared.now) (sym w.scan-is) w.go_round.ensures.scan
 ]

@@ -2,7 +2,7 @@ use Rattle.std.proofs.Common.{◌≡◌, []}
 use Rattle.board_rule.specs.OnBoard.{layout}
 use Rattle.driver_cycle.specs.Leading.{IsWaiting}
 use Rattle.driver_cycle.specs.Epochs.{HasGoneOn}
-use Rattle.steal_loops.specs.working.Takers.{IsPatrol}
+use Rattle.steal_loops.specs.working.Claimants.{IsScan}
 use Rattle.steal_loops.proofs.epoch.run_cycle.Given as goal
 
 abbrev pub invariant-loop : goal.invariant-loop
@@ -13,5 +13,5 @@ invariant-loop g l = record {
   waits : IsWaiting (layout l.at.board.now) l.seat.knows;
   cycle : l.seat.knows.lead.cycle ≡ l.fn.seat.knows.lead.cycle;
   checked : l.checked ≡ l.seat.knows.lead.checked;
-  patrol : IsPatrol l.at.shared.now l.patrol;
+  scan : IsScan l.at.shared.now l.scan;
 }

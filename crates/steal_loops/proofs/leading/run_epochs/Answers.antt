@@ -15,8 +15,8 @@ run_epoch-requires-clause-thread g c = let i = c.loop-k.invariant in let k = c.l
     let here : slice_get bs k ≡ Some b = slice_get-get_or bs k b (omega (arith, low, end))
     ∙ ap Some (sym (c.index-as_slice-k.is ∙ ap (λ (l : List Board). get_or l k b) c.as_slice.ensures)) in
     let seat : Known = get_or c.loop-k.drivers k c.index-drivers-k.result in
-    let lead : IsFirstLead c.args.own.now.score k b seat =
-    subst (IsFirstLead c.args.own.now.score k b) (sym (i.led.left k c.index-drivers-k.result (omega arith)))
+    let lead : IsFirstLead c.args.own.now.run_model k b seat =
+    subst (IsFirstLead c.args.own.now.run_model k b) (sym (i.led.left k c.index-drivers-k.result (omega arith)))
     (c.requires.drivers.each k b c.index-drivers-k.result here) in
     thread_begins bs k b here c.args.own.now c.loop-k.own c.requires.own i.own [] []
     (All-nil (IsReady bs)) (record { count = refl; each = λ j d inside. absurd (omega (arith, inside)) }) c.requires.has seat lead
@@ -26,7 +26,7 @@ run_epoch-requires-clause-between g c = let i = c.loop-k.invariant in let k = c.
     let bs = c.args.shared.now.boards in let b : Board = c.index-as_slice-k.result in
     let here : slice_get bs k ≡ Some b = slice_get-get_or bs k b (omega (arith, low, end))
     ∙ ap Some (sym (c.index-as_slice-k.is ∙ ap (λ (l : List Board). get_or l k b) c.as_slice.ensures)) in
-    (subst (IsFirstLead c.args.own.now.score k b) (sym (i.led.left k c.index-drivers-k.result (omega arith)))
+    (subst (IsFirstLead c.args.own.now.run_model k b) (sym (i.led.left k c.index-drivers-k.result (omega arith)))
     (c.requires.drivers.each k b c.index-drivers-k.result here)).between
 
 pub loop-k-preserved : goal.loop-k-preserved
@@ -44,5 +44,5 @@ loop-k-preserved g c = let i = c.loop-k.invariant in let k = c.loop-k.k in let l
           (get_or_default c.loop-k.drivers k c.index-drivers-k.result e inside ∙ i.led.left k e (omega arith)) c.run_epoch.ensures.led);
       looked = looked_more c.args.drivers.now c.loop-k.drivers k x c.index-drivers-k.result (g.K.Ticker.ticks c.args.ticker.now)
           (g.K.Ticker.ticks c.loop-k.ticker) (g.K.Ticker.ticks c.run_epoch.new.ticker) inside i.looked c.run_epoch.ensures.looked;
-      patrol = c.run_epoch.ensures.patrol;
+      scan = c.run_epoch.ensures.scan;
     }

@@ -8,10 +8,10 @@ use Rattle.steal_shelf.specs.declared.shelf.ShelfSeat.{ShelfSeat}
 use Rattle.steal_shelf.specs.Seats.{IsSeatOf}
 use Rattle.steal_loops.specs.declared.opening.Opened.{Opened}
 use Rattle.steal_loops.specs.declared.shared.Shared.{Shared}
-use Rattle.steal_loops.specs.declared.taker.Taker.{Taker}
+use Rattle.steal_loops.specs.declared.claimant.Claimant.{Claimant}
 use Rattle.steal_loops.specs.working.Cells.{AreCells}
 use Rattle.steal_loops.specs.working.Crews.{HasNode}
-use Rattle.steal_loops.proofs.PrepareLemmas.{front, back, few_nodes, workers_ways, all_first, all_alike, node_there, are_cells, new_taker, drives}
+use Rattle.steal_loops.proofs.PrepareLemmas.{front, back, few_nodes, workers_ways, all_first, all_alike, node_there, are_cells, new_claimant, drives}
 use Rattle.steal_loops.proofs.preparing.prepare.Goals as goal
 
 pub new-requires-clause-cells : goal.new-requires-clause-cells
@@ -20,10 +20,10 @@ new-requires-clause-cells c = all_first c.args.plan.now c.args.waves.now c.in_ok
 pub new-requires-clause-alike : goal.new-requires-clause-alike
 new-requires-clause-alike c = all_alike c.args.plan.now c.args.waves.now c.in_ok-seating.field-0 c.in_ok-seating.ensures
 
-pub takers_of-requires : goal.takers_of-requires
-takers_of-requires c = let plan = c.args.plan.now in let waves = c.args.waves.now in let o : Opened = c.in_ok-seating.field-0 in let opened = c.in_ok-seating.ensures in
+pub claimants_of-requires : goal.claimants_of-requires
+claimants_of-requires c = let plan = c.args.plan.now in let waves = c.args.waves.now in let o : Opened = c.in_ok-seating.field-0 in let opened = c.in_ok-seating.ensures in
     let w = c.in_ok-ways.ensures in let made = c.in_ok-shelf.ensures in
-    let shared : Shared = record { boards = o.boards; ways = c.in_ok-ways.ways; signs = c.new-signs.result; shelf = c.in_ok-shelf.shelf; seating = o.seating; score = c.of.result } in
+    let shared : Shared = record { boards = o.boards; ways = c.in_ok-ways.ways; signs = c.new-signs.result; shelf = c.in_ok-shelf.shelf; seating = o.seating; run_model = c.of.result } in
     let few = cells_seat plan (few_nodes plan c.requires.sound) in let seat : ShelfSeat = c.unwrap-seat.result in let left : List ShelfSeat = c.pop.new.self in
     let whole : c.in_ok-shelf.seats ≡ left ++ seat ∷ [] = c.pop.ensures.list ∙ ap (λ (x : Option ShelfSeat). left ++ option_to_list x) c.unwrap-seat.ensures in
     let long = ap (λ (l : List ShelfSeat). length l) whole in let parts = length-append left (seat ∷ []) in let many = made.count in let ways = w.count in record {
@@ -36,12 +36,12 @@ takers_of-requires c = let plan = c.args.plan.now in let waves = c.args.waves.no
 pub returns : goal.returns
 returns c = let plan = c.args.plan.now in let waves = c.args.waves.now in let o : Opened = c.in_ok-seating.field-0 in let opened = c.in_ok-seating.ensures in
     let w = c.in_ok-ways.ensures in let made = c.in_ok-shelf.ensures in let p = c.of.ensures.plan in let v = c.of.ensures.waves in
-    let shared : Shared = record { boards = o.boards; ways = c.in_ok-ways.ways; signs = c.new-signs.result; shelf = c.in_ok-shelf.shelf; seating = o.seating; score = c.of.result } in
+    let shared : Shared = record { boards = o.boards; ways = c.in_ok-ways.ways; signs = c.new-signs.result; shelf = c.in_ok-shelf.shelf; seating = o.seating; run_model = c.of.result } in
     let seating = cells_seat plan (few_nodes plan c.requires.sound) in let seat : ShelfSeat = c.unwrap-seat.result in let left : List ShelfSeat = c.pop.new.self in
     let whole : c.in_ok-shelf.seats ≡ left ++ seat ∷ [] = c.pop.ensures.list ∙ ap (λ (x : Option ShelfSeat). left ++ option_to_list x) c.unwrap-seat.ensures in
     let cells : AreCells shared = are_cells plan waves o opened shared refl p v made.cells refl seating.few in
-    let taker : Taker = c.in_ok-taker.taker in let t = c.in_ok-taker.ensures in let way = sym t.way in
-    let is = new_taker shared cells taker
+    let claimant : Claimant = c.in_ok-claimant.claimant in let t = c.in_ok-claimant.ensures in let way = sym t.way in
+    let is = new_claimant shared cells claimant
     (subst (IsSeatOf shared.shelf) (sym t.seat) (back (IsSeatOf shared.shelf) left seat (subst (All (IsSeatOf shared.shelf)) whole made.seats)))
     (subst (IsWayOf shared.ways) way w.driver.answered) (t.ended ∙ ap (λ (n : ℕ). replicate n false) c.loops.ensures) in record {
       plan_is = p;
@@ -50,7 +50,7 @@ returns c = let plan = c.args.plan.now in let waves = c.args.waves.now in let o 
       drivers = opened.drivers;
       cells = cells;
       workers = c.in_ok-workers.ensures.workers;
-      can_drive = drives plan waves o opened shared refl p v taker (is, ap (λ (x : Way). x.number) t.way ∙ (w.driver.loop_is ∙ sym w.loops));
+      can_drive = drives plan waves o opened shared refl p v claimant (is, ap (λ (x : Way). x.number) t.way ∙ (w.driver.loop_is ∙ sym w.loops));
       count = c.in_ok-workers.ensures.count ∙ w.count;
       nodes = λ n low. subst (λ (l : List LoopState). HasNode o.own l n) (sym made.cells) (node_there plan waves o opened seating n low);
     }

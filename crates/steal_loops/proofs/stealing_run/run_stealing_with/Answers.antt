@@ -5,15 +5,15 @@ use Rattle.graph_run.specs.declared.ended.EndedRun.{EndedRun}
 use Rattle.graph_run.specs.Assignment.{cell_number, cell_count}
 use Rattle.graph_run.specs.Leads.{checks_of}
 use Rattle.graph_run.specs.PlanRun.{IsRunOf}
-use Rattle.graph_run.specs.RunStages.{IsEndedRun}
+use Rattle.graph_run.specs.RunStates.{IsEndedRun}
 use Rattle.graph_run.proofs.PlanRunLemmas.{shapes_are, have_ended, expects, no_checks}
-use Rattle.graph_run.proofs.RunStagesLemmas.{run_looked}
+use Rattle.graph_run.proofs.RunStatesLemmas.{run_looked}
 use Rattle.steal_loops.proofs.DoneLemmas.{can_start, can_lead, done_of}
-use Rattle.steal_loops.proofs.SendLemmas.{taker_send, shared_sync}
+use Rattle.steal_loops.proofs.SendLemmas.{claimant_send, shared_sync}
 use Rattle.steal_loops.proofs.stealing_run.run_stealing_with.Goals as goal
 
 pub run-done-requires-send-M : goal.run-done-requires-send-M
-run-done-requires-send-M g c κs within = search (sendable, taker_send) depth 30
+run-done-requires-send-M g c κs within = search (sendable, claimant_send) depth 30
 
 pub run-done-requires-sync-C : goal.run-done-requires-sync-C
 run-done-requires-sync-C g c κs within = search (sendable, shared_sync) depth 30

@@ -6,7 +6,7 @@ pub step_cell-requires : goal.step_cell-requires
 step_cell-requires g c = let s = c.args.state.now in let h = c.requires.allowed in let f = c.requires.cells.each c.args.cell h.0 h.1 in record {
   under_way = under_way c.args.shared.now.boards h.0 s f.loop f.boards_are h.2;
   left = c.requires.left;
-  none = none_on h.0 s (record { score = h.2.score; nodes = h.2.nodes }) f.none;
+  none = none_on h.0 s (record { run_model = h.2.run_model; nodes = h.2.nodes }) f.none;
 }
 
 pub returns : goal.returns

@@ -1,6 +1,6 @@
 use Rattle.std.proofs.Common.{ℕ, refl, subst}
 use Rattle.steal_loops.specs.working.NodeSets.{IsBut}
-use Rattle.steal_loops.proofs.TakerLemmas.{flagged, at_end}
+use Rattle.steal_loops.proofs.ClaimantLemmas.{flagged, at_end}
 use Rattle.steal_loops.proofs.visiting.visit.Goals as goal
 
 pub returns-in-Some-stepped-clause-visited : goal.returns-in-Some-stepped-clause-visited
@@ -15,9 +15,9 @@ returns-in-Some-stepped-clause-visited g c = record {
   sent = (c.forward.result, c.forward.ensures.sent);
 }
 
-pub returns-in-None-clause-taker : goal.returns-in-None-clause-taker
-returns-in-None-clause-taker g c = let h = c.requires.taker in let s = c.advance_unless_ended-stepped.new.state in
-    flagged c.args.shared.now c.args.taker.now _ c.args.cell h c.put_back.ensures.seat h.answered refl
+pub returns-in-None-clause-claimant : goal.returns-in-None-clause-claimant
+returns-in-None-clause-claimant g c = let h = c.requires.claimant in let s = c.advance_unless_ended-stepped.new.state in
+    flagged c.args.shared.now c.args.claimant.now _ c.args.cell h c.put_back.ensures.seat h.answered refl
     (s, at_end c.args.shared.now c.args.cell s c.requires.cells c.advance_unless_ended-stepped.ensures.allowed c.in-None.ensures.end)
 
 pub returns-in-None-clause-visited : goal.returns-in-None-clause-visited

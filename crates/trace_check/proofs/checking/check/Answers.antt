@@ -2,7 +2,7 @@ use Rattle.std.proofs.Common.{List, length, map, sym, subst, ap}
 use Rattle.pw_graph.specs.declared.event.Event.{Event}
 use Rattle.pw_graph.specs.declared.plan.Epoch.{Epoch}
 use Rattle.pw_graph.specs.History.{cycles_of}
-use Rattle.trace_check.specs.working.Fronts.{IsFrontOf}
+use Rattle.trace_check.specs.working.Progress.{IsProgressOf}
 use Rattle.trace_check.specs.FirstIllegal.{IsVerdictOn}
 use Rattle.trace_check.proofs.FindingLemmas.{verdict_one}
 use Rattle.trace_check.proofs.checking.check.Goals as goal
@@ -12,6 +12,6 @@ returns c =
     let shapes = map (λ e. e.shape) c.args.plan.now.epochs in
     let verdict : IsVerdictOn shapes c.args.events.now c.verdict_of.result = c.verdict_of.ensures shapes c.args.events.now
     (sym (ap length c.as_slice-events.ensures))
-    (subst (λ (p : List Epoch × List Event). IsFrontOf (cycles_of (map (λ e. e.shape) p.0)) p.1 c.in_ok-front.front)
-    (λ i. (c.as_slice.ensures i, c.as_slice-events.ensures i)) c.in_ok-front.ensures.front) in
+    (subst (λ (p : List Epoch × List Event). IsProgressOf (cycles_of (map (λ e. e.shape) p.0)) p.1 c.in_ok-progress.progress)
+    (λ i. (c.as_slice.ensures i, c.as_slice-events.ensures i)) c.in_ok-progress.ensures.progress) in
     record { verdict = verdict; only = λ v h. verdict_one shapes c.args.events.now c.verdict_of.result v verdict h }

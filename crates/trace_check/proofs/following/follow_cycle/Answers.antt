@@ -5,13 +5,13 @@ use Rattle.pw_graph.specs.History.{AreJoined}
 use Rattle.std.specs.Prelude.{slice_get}
 use Rattle.trace_check.specs.declared.causes.Cause.TheVariants.{NotBegun}
 use Rattle.trace_check.specs.Reasons.{IsCauseIn}
-use Rattle.trace_check.specs.working.Fronts.{StopAfter}
+use Rattle.trace_check.specs.working.Progress.{StopAfter}
 use Rattle.trace_check.proofs.CauseLemmas.{cause_before, cause_since}
-use Rattle.trace_check.proofs.FrontsLemmas.{stop_at_nothing, stop_at_begin, stop_inside, whole_inside}
+use Rattle.trace_check.proofs.ProgressLemmas.{stop_at_nothing, stop_at_begin, stop_inside, whole_inside}
 use Rattle.trace_check.proofs.following.follow_cycle.Goals as goal
 
-pub returns-then-not-is_begin_of-clause-front : goal.returns-then-not-is_begin_of-clause-front
-returns-then-not-is_begin_of-clause-front c =
+pub returns-then-not-is_begin_of-clause-progress : goal.returns-then-not-is_begin_of-clause-progress
+returns-then-not-is_begin_of-clause-progress c =
     let s = c.args.shape.now in let k = c.args.cycle in
     let other : ¬ (c.in-Some.first.now ≡ Begin k) = λ e. let t = c.if-not-is_begin_of.ensures.1 e in cc in
     let row = sym c.in-Some.ensures.cases.0 in (
@@ -21,15 +21,15 @@ returns-then-not-is_begin_of-clause-front c =
           (cause_before s k (c.in-Some.first.now ∷ c.in-Some.rest.now) (λ e. other cc)),
     )
 
-pub returns-in-Whole-clause-front : goal.returns-in-Whole-clause-front
-returns-in-Whole-clause-front c =
+pub returns-in-Whole-clause-progress : goal.returns-in-Whole-clause-progress
+returns-in-Whole-clause-progress c =
     let row : c.args.events.now ≡ Begin c.args.cycle ∷ c.in-Some.rest.now =
     c.in-Some.ensures.cases.0 ∙ ap (λ e. e ∷ c.in-Some.rest.now) (c.if-not-is_begin_of.ensures.0 refl) in
     subst (λ es. AreJoined ((c.args.shape.now, c.args.cycle) ∷ []) (take (c.in-Whole.n + 2) es)) (sym row)
     (whole_inside c.args.shape.now c.args.cycle c.in-Some.rest.now c.in-Whole.n c.in-Whole.ensures)
 
-pub returns-in-Part-clause-front : goal.returns-in-Part-clause-front
-returns-in-Part-clause-front c =
+pub returns-in-Part-clause-progress : goal.returns-in-Part-clause-progress
+returns-in-Part-clause-progress c =
     let s = c.args.shape.now in let k = c.args.cycle in let n = c.in-Part.n in let cause = c.in-Part.cause in
     let row : c.args.events.now ≡ Begin k ∷ c.in-Some.rest.now =
     c.in-Some.ensures.cases.0 ∙ ap (λ e. e ∷ c.in-Some.rest.now) (c.if-not-is_begin_of.ensures.0 refl) in (
@@ -39,8 +39,8 @@ returns-in-Part-clause-front c =
           (cause_since s k c.in-Some.rest.now n cause c.in-Part.ensures.3),
     )
 
-pub returns-in_default-clause-front : goal.returns-in_default-clause-front
-returns-in_default-clause-front c =
+pub returns-in_default-clause-progress : goal.returns-in_default-clause-progress
+returns-in_default-clause-progress c =
     let s = c.args.shape.now in let k = c.args.cycle in
     let none = sym (nil_from_length c.args.events.now c.in_default.ensures.cases) in (
       λ later sounds. subst (λ es. StopAfter ((s, k) ∷ later) es 0) none (stop_at_nothing s k c.requires.sound later sounds),

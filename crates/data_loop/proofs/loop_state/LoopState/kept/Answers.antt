@@ -16,5 +16,5 @@ pub returns-clause-end : goal.returns-clause-end
 returns-clause-end c = λ done. let s = c.args.self.now in let i = c.index_in.result in let x : NodeState = c.index.result.now in
     let low : i < length s.nodes = subst (λ (l : List ℕ). i < length l) c.as_slice.ensures c.index_in.ensures.inside in
     let node : get_or s.nodes i 0 ≡ c.args.node = ap (λ (l : List ℕ). get_or l i 0) (sym c.as_slice.ensures) ∙ c.index_in.ensures.at in
-    c.kept.ensures.value ∙ kept_at_end s.score c.requires.whole.sound c.args.node x
+    c.kept.ensures.value ∙ kept_at_end s.run_model c.requires.whole.sound c.args.node x
     (done_state s c.args.node i x done low node (sym c.index.ensures)) c.requires.sink

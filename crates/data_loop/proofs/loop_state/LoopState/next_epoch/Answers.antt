@@ -4,9 +4,9 @@ use Rattle.std.proofs.lemmas.List.{with_items_is}
 use Rattle.node_state.specs.declared.node_state.NodeState.{NodeState}
 use Rattle.node_progress.specs.NodeStates.{IsNodeState}
 use Rattle.node_progress.specs.Restarts.{restart_of, next_first, IsEndOf}
-use Rattle.data_loop.specs.declared.stage.Stage.{Stage}
+use Rattle.data_loop.specs.declared.epoch_state.EpochState.{EpochState}
 use Rattle.std.specs.Vec.{with_items}
-use Rattle.data_loop.specs.StageParts.{restarts_in, restart_at}
+use Rattle.data_loop.specs.EpochStateParts.{restarts_in, restart_at}
 use Rattle.data_loop.specs.Loops.{plan_of}
 use Rattle.data_loop.proofs.PoolCountLemmas.{few_epochs}
 use Rattle.data_loop.proofs.EpochLemmas.{ends_so, states_so, restarts_so, between}
@@ -20,18 +20,18 @@ overflow_add-next c = let s = c.args.self.now in let end = c.requires.ended.2 in
 pub enter_all-requires-clause-restarts : goal.enter_all-requires-clause-restarts
 enter_all-requires-clause-restarts c = λ j less. let s = c.args.self.now in let end = c.requires.ended in
     let z : s.epoch + 1 ≡ suc s.epoch = omega arith in
-    ap (λ l. restart_at l j) (c.restarts_in.ensures ∙ ap (λ (l : List Stage). restarts_in l (s.epoch + 1)) c.as_slice-2.ensures.value)
+    ap (λ l. restart_at l j) (c.restarts_in.ensures ∙ ap (λ (l : List EpochState). restarts_in l (s.epoch + 1)) c.as_slice-2.ensures.value)
     ∙ restarts_so end.0 end.1 s end.2 (s.epoch + 1) z j (subst (λ (l : List ℕ). j < length l) c.as_slice.ensures less)
     ∙ ap (λ (l : List ℕ). restart_of (plan_of s) (suc s.epoch) (get_or l j 0)) (sym c.as_slice.ensures)
 
 pub enter_all-requires-clause-ended : goal.enter_all-requires-clause-ended
 enter_all-requires-clause-ended c = λ j less. let s = c.args.self.now in let end = c.requires.ended in
-    subst (λ (l : List ℕ). IsEndOf s.score s.epoch (next_first (plan_of s) s.epoch) (get_or l j 0)) (sym c.as_slice.ensures)
+    subst (λ (l : List ℕ). IsEndOf s.run_model s.epoch (next_first (plan_of s) s.epoch) (get_or l j 0)) (sym c.as_slice.ensures)
     (ends_so end.0 end.1 s end.2 j (subst (λ (l : List ℕ). j < length l) c.as_slice.ensures less))
 
 pub enter_all-requires-clause-states : goal.enter_all-requires-clause-states
 enter_all-requires-clause-states c = λ j d less. let s = c.args.self.now in let end = c.requires.ended in
-    subst (λ (x : List ℕ × List NodeState). IsNodeState s.score s.epoch (next_first (plan_of s) s.epoch) (get_or x.0 j 0) (get_or x.1 j d))
+    subst (λ (x : List ℕ × List NodeState). IsNodeState s.run_model s.epoch (next_first (plan_of s) s.epoch) (get_or x.0 j 0) (get_or x.1 j d))
     (λ i. (sym c.as_slice.ensures i, sym c.as_mut_slice.ensures.value i))
     (states_so end.0 end.1 s end.2 j d (subst (λ (l : List ℕ). j < length l) c.as_slice.ensures less))
 
@@ -41,7 +41,7 @@ returns-clause-between c = let s = c.args.self.now in let end = c.requires.ended
     let items = with_items_is s.states c.enter_all.new.states long in
     between end.0 end.1 s end.2 (with_items s.states c.enter_all.new.states)
     (ap (λ (l : List NodeState). length l) items ∙ long ∙ s.states.ok.0)
-    (λ j d less. subst (λ (l : List NodeState). IsNodeState s.score (suc s.epoch) (next_first (plan_of s) s.epoch) (get_or s.nodes j 0) (get_or l j d)) (sym items)
-    (subst (λ (l : List ℕ). IsNodeState s.score (suc s.epoch) (next_first (plan_of s) s.epoch) (get_or l j 0) (get_or c.enter_all.new.states j d)) c.as_slice.ensures
+    (λ j d less. subst (λ (l : List NodeState). IsNodeState s.run_model (suc s.epoch) (next_first (plan_of s) s.epoch) (get_or s.nodes j 0) (get_or l j d)) (sym items)
+    (subst (λ (l : List ℕ). IsNodeState s.run_model (suc s.epoch) (next_first (plan_of s) s.epoch) (get_or l j 0) (get_or c.enter_all.new.states j d)) c.as_slice.ensures
     (c.enter_all.ensures.states j d (subst (λ (l : List ℕ). j < length l) (sym c.as_slice.ensures) less))))
     (s.epoch + 1) (let z : s.epoch + 1 ≡ suc s.epoch = omega arith in z)

@@ -2,7 +2,7 @@ use Rattle.std.proofs.Common.{◌∙◌, [], ◌∷◌, ◌++◌, List, sym, ap,
 use Rattle.std.specs.List.{AllZip}
 use Rattle.pw_lists.specs.Listed.{Listed}
 use Rattle.graph_run.specs.declared.ended.EndedRun.{EndedRun}
-use Rattle.graph_run.specs.RunStages.{HasRunAlone}
+use Rattle.graph_run.specs.RunStates.{HasRunAlone}
 use Rattle.driver_groups.specs.working.Crew.{runs_of, merged}
 use Rattle.driver_groups.proofs.GroupLemmas.{merged_zip, dealt_flags}
 use Rattle.driver_groups.proofs.crew.SharedCrewPlacedRunEndedRun.collect.Goals as goal

@@ -1,7 +1,7 @@
 use Rattle.std.proofs.Common.{sym, subst, arith}
 use Rattle.std.specs.List.{AllZip}
 use Rattle.graph_run.specs.declared.ended.EndedRun.{EndedRun}
-use Rattle.graph_run.specs.RunStages.{HasRunAlone}
+use Rattle.graph_run.specs.RunStates.{HasRunAlone}
 use Rattle.driver_groups.specs.declared.crew.PlacedRun.{PlacedRun}
 use Rattle.driver_groups.proofs.crew.SharedCrewPlacedRunEndedRun.lead.Goals as goal
 
