@@ -48,5 +48,6 @@ module _ (shelf : Shelf) (table : TableId) (same : table ≡ table_of shelf) (v 
   pub dealt_new : IsNewSeat shelf seat
   dealt_new = record {
     lacks = λ i low d. ap (λ (m : ShelfMe). m.0.has) (h.each i d low).me;
+    bare = λ i d low. (ap (λ (m : ShelfMe). m.0.took) (h.each i d low).me, ap (λ (m : ShelfMe). m.0.left) (h.each i d low).me);
     tries = λ i d low. ap (λ (m : ShelfMe). m.0.tries) (h.each i d low).me;
   }

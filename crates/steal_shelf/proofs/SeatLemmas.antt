@@ -9,7 +9,8 @@ use Rattle.steal_shelf.specs.declared.token.Token.{Token}
 use Rattle.data_loop.specs.declared.loop_state.LoopState.{LoopState}
 use Rattle.steal_shelf.specs.declared.view.CellView.{CellView}
 use Rattle.steal_shelf.specs.working.ShelfSteps.{IsCellOf, tried, taken, rested}
-use Rattle.steal_shelf.specs.Seats.{IsAllowed, cells_of, IsTokenOf, IsSeatOf, AreOthersLeft, HasFetched, HasFoundOut, HasPutBack}
+use Rattle.steal_shelf.specs.Seats.{IsAllowed, cells_of, IsTokenOf, IsSeatOf}
+use Rattle.steal_shelf.specs.Fetching.{AreOthersLeft, HasFetched, HasFoundOut, HasPutBack}
 
 module _ (shelf : Shelf) (old new : ShelfSeat) (i : ℕ) (x : Token) (h : IsSeatOf shelf old) (low : i < length (cells_of shelf))
     (is : new.tokens.items ≡ set old.tokens.items i x) where
@@ -48,8 +49,8 @@ module _ (shelf : Shelf) (i : ℕ) (x : Token) (t : IsTokenOf shelf i x) (s : Lo
   allowed_of h = (h.0, (λ k. slice_get (t.made k) (t.knows k)) ∙ h.1, h.2)
 
 module _ (shelf : Shelf) (i : ℕ) (x y : Token) (t : IsTokenOf shelf i x) (table : y.seat.table_id ≡ x.seat.table_id) (cell : y.cell ≡ x.cell) where
-  pub taken_token : x.seat.me.0.has ≡ false → y.seat.me.0 ≡ taken x.seat.me.0 → y.seat.me.1 ≡ (x.cell, None) ∷ x.seat.me.1 → IsTokenOf shelf i y
-  taken_token was is out = record {
+  pub taken_token : (s : LoopState) → x.seat.me.0.has ≡ false → y.seat.me.0 ≡ taken s x.seat.me.0 → y.seat.me.1 ≡ (x.cell, None) ∷ x.seat.me.1 → IsTokenOf shelf i y
+  taken_token s was is out = record {
     table = table ∙ t.table;
     cell = cell ∙ t.cell;
     knows = ap (λ (v : CellView). v.cell) is ∙ t.knows;
@@ -72,8 +73,8 @@ module _ (shelf : Shelf) (i : ℕ) (x y : Token) (t : IsTokenOf shelf i x) (tabl
         t.turn;
   }
 
-  pub rested_token : y.seat.me.0 ≡ rested x.seat.me.0 → y.seat.me.1 ≡ [] → IsTokenOf shelf i y
-  rested_token is none = record {
+  pub rested_token : (s : LoopState) → y.seat.me.0 ≡ rested (Some s) x.seat.me.0 → y.seat.me.1 ≡ [] → IsTokenOf shelf i y
+  rested_token s is none = record {
     table = table ∙ t.table;
     cell = cell ∙ t.cell;
     knows = ap (λ (v : CellView). v.cell) is ∙ t.knows;
@@ -84,10 +85,10 @@ module _ (shelf : Shelf) (i : ℕ) (x y : Token) (t : IsTokenOf shelf i x) (tabl
 -- after a try, by its answer
 pub fetched_token : (shelf : Shelf) (i : ℕ) (x y : Token) → IsTokenOf shelf i x → y.seat.table_id ≡ x.seat.table_id → y.cell ≡ x.cell
     → (o : Option LoopState)
-    → IfSome o (λ s. IsCellOf x.seat.me.0 s × (x.seat.me.0.has ≡ false) × (y.seat.me.0 ≡ taken x.seat.me.0) × (y.seat.me.1 ≡ (x.cell, None) ∷ x.seat.me.1))
+    → IfSome o (λ s. IsCellOf x.seat.me.0 s × (x.seat.me.0.has ≡ false) × (y.seat.me.0 ≡ taken s x.seat.me.0) × (y.seat.me.1 ≡ (x.cell, None) ∷ x.seat.me.1))
     → IfNone o ((y.seat.me.0 ≡ tried x.seat.me.0) × (y.seat.me.1 ≡ x.seat.me.1)) → IsTokenOf shelf i y
 fetched_token shelf i x y t table cell None some none = tried_token shelf i x y t table cell none.0 none.1
-fetched_token shelf i x y t table cell (Some s) some none = taken_token shelf i x y t table cell some.1 some.2 some.3
+fetched_token shelf i x y t table cell (Some s) some none = taken_token shelf i x y t table cell s some.1 some.2 some.3
 
 -- the hand of a token that has the turn
 pub hand_is : (shelf : Shelf) (i : ℕ) (x : Token) → IsTokenOf shelf i x → x.seat.me.0.has ≡ true → x.seat.me.1 ≡ (x.cell, None) ∷ []
@@ -102,25 +103,35 @@ module _ (shelf : Shelf) (old new : ShelfSeat) (i : ℕ) (x y : Token) (h : IsSe
   now : (d : Token) → get_or new.tokens.items i d ≡ y
   now d = here_now shelf old new i y h low is d
 
-  pub fetched : x.seat.me.0.has ≡ false → y.seat.me.0 ≡ taken x.seat.me.0 → HasFetched i old new
-  fetched lacks takes = record {
-    lacked = λ d. ap (λ (z : Token). z.seat.me.0.has) (was d) ∙ lacks;
-    has = λ d. ap (λ (z : Token). z.seat.me.0.has) (now d) ∙ ap (λ (v : CellView). v.has) takes;
-    tries = λ d. ap (λ (z : Token). z.seat.me.0.tries) (now d) ∙ ap (λ (v : CellView). v.tries) takes
-        ∙ ap (λ (z : Token). z.seat.me.0.tries) (sym (was d));
+  -- what a token has of the cell, before and after
+  module _ {X : Type 0} (f : CellView → X) where
+    was_at : (d : Token) → f x.seat.me.0 ≡ f ((get_or old.tokens.items i d).seat.me.0)
+    was_at d = ap (λ (z : Token). f z.seat.me.0) (sym (was d))
+
+    now_at : (d : Token) → f ((get_or new.tokens.items i d).seat.me.0) ≡ f y.seat.me.0
+    now_at d = ap (λ (z : Token). f z.seat.me.0) (now d)
+
+  pub fetched : (s : LoopState) → x.seat.me.0.has ≡ false → y.seat.me.0 ≡ taken s x.seat.me.0 → HasFetched i s old new
+  fetched s lacks takes = record {
+    lacked = λ d. sym (was_at (λ (v : CellView). v.has) d) ∙ lacks;
+    has = λ d. now_at (λ (v : CellView). v.has) d ∙ ap (λ (v : CellView). v.has) takes;
+    took = λ d. now_at (λ (v : CellView). v.took) d ∙ ap (λ (v : CellView). v.took) takes;
+    left = λ d. now_at (λ (v : CellView). v.left) d ∙ ap (λ (v : CellView). v.left) takes ∙ was_at (λ (v : CellView). v.left) d;
+    tries = λ d. now_at (λ (v : CellView). v.tries) d ∙ ap (λ (v : CellView). v.tries) takes ∙ was_at (λ (v : CellView). v.tries) d;
   }
 
   pub found_out : y.seat.me.0 ≡ tried x.seat.me.0 → HasFoundOut i old new
   found_out more = record {
-    same = λ d. ap (λ (z : Token). z.seat.me.0.has) (now d) ∙ ap (λ (v : CellView). v.has) more
-        ∙ ap (λ (z : Token). z.seat.me.0.has) (sym (was d));
-    tries = λ d. ap (λ (z : Token). z.seat.me.0.tries) (now d) ∙ ap (λ (v : CellView). v.tries) more
-        ∙ ap (λ (z : Token). z.seat.me.0.tries + 1) (sym (was d));
+    same = λ d. now_at (λ (v : CellView). v.has) d ∙ ap (λ (v : CellView). v.has) more ∙ was_at (λ (v : CellView). v.has) d;
+    took = λ d. now_at (λ (v : CellView). v.took) d ∙ ap (λ (v : CellView). v.took) more ∙ was_at (λ (v : CellView). v.took) d;
+    left = λ d. now_at (λ (v : CellView). v.left) d ∙ ap (λ (v : CellView). v.left) more ∙ was_at (λ (v : CellView). v.left) d;
+    tries = λ d. now_at (λ (v : CellView). v.tries) d ∙ ap (λ (v : CellView). v.tries) more ∙ was_at (λ (v : CellView). v.tries + 1) d;
   }
 
-  pub put_again : y.seat.me.0 ≡ rested x.seat.me.0 → HasPutBack i old new
-  put_again rests = record {
-    lacks = λ d. ap (λ (z : Token). z.seat.me.0.has) (now d) ∙ ap (λ (v : CellView). v.has) rests;
-    tries = λ d. ap (λ (z : Token). z.seat.me.0.tries) (now d) ∙ ap (λ (v : CellView). v.tries) rests
-        ∙ ap (λ (z : Token). z.seat.me.0.tries) (sym (was d));
+  pub put_again : (s : LoopState) → y.seat.me.0 ≡ rested (Some s) x.seat.me.0 → HasPutBack i s old new
+  put_again s rests = record {
+    lacks = λ d. now_at (λ (v : CellView). v.has) d ∙ ap (λ (v : CellView). v.has) rests;
+    left = λ d. now_at (λ (v : CellView). v.left) d ∙ ap (λ (v : CellView). v.left) rests;
+    took = λ d. now_at (λ (v : CellView). v.took) d ∙ ap (λ (v : CellView). v.took) rests ∙ was_at (λ (v : CellView). v.took) d;
+    tries = λ d. now_at (λ (v : CellView). v.tries) d ∙ ap (λ (v : CellView). v.tries) rests ∙ was_at (λ (v : CellView). v.tries) d;
   }

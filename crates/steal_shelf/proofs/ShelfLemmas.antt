@@ -1,6 +1,6 @@
 -- Each kind of step keeps the rule of the shelf.
 use Rattle.std.proofs.Common.{◌≡◌, ◌⊎◌, ℕ, zero, suc, ◌<◌, ◌==◌, Bool, true, false, true≢false, List, [], ◌∷◌, ◌++◌, length, set, length-set, get_or-set_same, get_or-set_other, refl, sym, ap, ◌∙◌, ⊎_elim, inl, inr, subst, arith}
-use Rattle.std.specs.Prelude.{Option, Some, None, slice_get}
+use Rattle.std.specs.Prelude.{Option, Some, None, IfSome, slice_get}
 use mathlib.Core.Option.{some, none, some-injective}
 use mathlib.Core.Logic.{dite}
 use native.Mathlib.Decide.{ℕ_discrete}
@@ -13,7 +13,7 @@ use Rattle.data_loop.specs.declared.loop_state.LoopState.{LoopState}
 use Rattle.steal_shelf.specs.declared.view.CellView.{CellView}
 use Rattle.steal_shelf.specs.Cells.{IsCell}
 use Rattle.steal_shelf.specs.ShelfRule.{ShelfState, HasTurn, IsHome, IsOut, Holds}
-use Rattle.steal_shelf.specs.working.ShelfSteps.{ShelfMe, IsCellOf, tried, taken, rested, dealt, HasTried, HasReturned}
+use Rattle.steal_shelf.specs.working.ShelfSteps.{ShelfMe, IsCellOf, in_hand, tried, taken, rested, dealt, HasTried, HasReturned}
 use Rattle.steal_shelf.proofs.FrameLemmas.{Beside, beside}
 
 -- a place that is read is inside
@@ -58,7 +58,7 @@ module _ (made : List LoopState) where
     -- the turn is taken
     takes_home : (c : LoopState) → slice_get made i ≡ Some c → i < length made → IsHome i c s → Owes i id me s 0 1
     takes_home c e low x =
-        let w : CellView = taken me.0 in
+        let w : CellView = taken x.state me.0 in
         let t : ShelfState = stepped s i 1 id me.1 w (takes i (Some x.state)) in
         let wide = h.words in let slots = h.homes in
         let b : Beside i id me.0 w s t = record {
@@ -82,7 +82,7 @@ module _ (made : List LoopState) where
           takes i (Some x.state),
           x.slot,
           kept i id me.0 w s t h b refl (length-set s.words i 1) (length-set s.homes i none) (λ d f. inr out),
-          (refl, is_false me.0.has (λ on. x.nobody id me.0 at (cell, on)), (x.state, refl, of_mine c x.state e x.allowed)),
+          (is_false me.0.has (λ on. x.nobody id me.0 at (cell, on)), (x.state, refl, refl, of_mine c x.state e x.allowed)),
         )
 
     -- the cell is out
@@ -145,9 +145,9 @@ module _ (made : List LoopState) where
       → carried ≡ (i, Some x) ∷ [] → me.1 ≡ carried → IsCellOf me.0 x
       → (s : ShelfState) → Holds made s → get_elem? s.views id ≡ some me.0
       → (w : CellView) × (a : Act (Option LoopState)) × Valid s.homes carried a × Holds made (stepped s i 0 id carried w a)
-      × ((w ≡ rested me.0) × (carried_after carried a ≡ rest carried))
+      × ((w ≡ rested (in_hand carried) me.0) × (carried_after carried a ≡ rest carried))
   returned id i me carried x cell low has is own allowed s h at =
-      let w : CellView = rested me.0 in
+      let w : CellView = rested (Some x) me.0 in
       let c : List (ℕ × Option LoopState) = (i, Some x) ∷ [] in
       let t : ShelfState = stepped s i 0 id c w gives in
       let wide = h.words in let slots = h.homes in
@@ -174,7 +174,7 @@ module _ (made : List LoopState) where
       }))
       (h.each i d e) in
       subst (λ l. (w : CellView) × (a : Act (Option LoopState)) × Valid s.homes l a × Holds made (stepped s i 0 id l w a)
-      × ((w ≡ rested me.0) × (carried_after l a ≡ rest l))) (sym is) (
+      × ((w ≡ rested (in_hand l) me.0) × (carried_after l a ≡ rest l))) (sym is) (
         w,
         gives,
         tt,
@@ -225,6 +225,20 @@ module _ (made : List LoopState) where
       }
 
 -- what a seat learns by a try that found 0
-pub found_zero : (i : ℕ) (me : ShelfMe) (n : ℕ) (m : ShelfMe) → n ≡ 0 → HasTried i me n m
-    → (m.0 ≡ taken me.0) × (me.0.has ≡ false) × ((s : LoopState) × (m.1 ≡ (i, Some s) ∷ me.1) × IsCellOf me.0 s)
+abbrev pub HasFoundHome : ℕ → ShelfMe → ShelfMe → Type 0
+HasFoundHome i me m = (me.0.has ≡ false)
+    × ((s : LoopState) × (m.0 ≡ taken s me.0) × (m.1 ≡ (i, Some s) ∷ me.1) × IsCellOf me.0 s)
+
+pub found_zero : (i : ℕ) (me : ShelfMe) (n : ℕ) (m : ShelfMe) → n ≡ 0 → HasTried i me n m → HasFoundHome i me m
 found_zero i me n m e h = subst (λ k. HasTried i me k m) e h
+
+-- and when it has changed the state in the slot for none
+pub took_out : (i : ℕ) (me m n : ShelfMe) (r : Option LoopState) → HasFoundHome i me m → m.1 ≡ (i, r) ∷ rest m.1 → n ≡ (m.0, (i, None) ∷ rest m.1)
+    → IfSome r (λ s. IsCellOf me.0 s × (me.0.has ≡ false) × (n.0 ≡ taken s me.0) × (n.1 ≡ (i, None) ∷ me.1))
+took_out i me m n r h was now = let got = h.1 in let is : Some got.0 ≡ r = ap in_hand (sym got.2 ∙ was) in
+    subst (λ (o : Option LoopState). IfSome o (λ s. IsCellOf me.0 s × (me.0.has ≡ false) × (n.0 ≡ taken s me.0) × (n.1 ≡ (i, None) ∷ me.1))) is (
+      got.3,
+      h.0,
+      ap (λ (x : ShelfMe). x.0) now ∙ got.1,
+      ap (λ (x : ShelfMe). x.1) now ∙ ap (λ (l : List (ℕ × Option LoopState)). (i, None) ∷ rest l) got.2,
+    )

@@ -1,4 +1,5 @@
 pub mod Cells
+pub mod Fetching
 pub mod NewShelf
 pub mod ShelfRule
 pub mod ShelfSafety

@@ -1,6 +1,6 @@
 -- A seat of the shelf: what one thread has of each cell.
 -- Source: this project's own.
-use Rattle.std.specs.Prelude.{◌≡◌, ◌≢◌, ◌⊎◌, ℕ, ◌+◌, ◌<◌, Bool, true, false, List, [], ◌∷◌, None, Some, length, slice_get, slice_index_or}
+use Rattle.std.specs.Prelude.{◌≡◌, ◌⊎◌, ℕ, ◌<◌, Bool, true, false, List, [], ◌∷◌, Option, None, Some, length, slice_get, slice_index_or}
 use Rattle.atomic_table.specs.Seated.{TableId}
 use Rattle.data_loop.specs.declared.loop_state.LoopState.{LoopState}
 use Rattle.steal_shelf.specs.declared.shelf.Shelf.{Shelf}
@@ -35,9 +35,16 @@ pub record IsSeatOf (shelf : Shelf) (seat : ShelfSeat) : Type 0 where
   pub tokens : (i : ℕ) (d : Token) → i < length (cells_of shelf)
       → IsTokenOf shelf i (slice_index_or seat.tokens.items i d)
 
--- whether it has the cell, and how many of its tries found the cell out
+-- whether it has the cell; in which state it fetched it the last time, and in which it put it back,
+-- if it did; and how many of its tries found the cell out
 abbrev pub turn_at : ShelfSeat → ℕ → Token → Bool
 turn_at seat i d = (slice_index_or seat.tokens.items i d).seat.me.0.has
+
+abbrev pub took_at : ShelfSeat → ℕ → Token → Option LoopState
+took_at seat i d = (slice_index_or seat.tokens.items i d).seat.me.0.took
+
+abbrev pub left_at : ShelfSeat → ℕ → Token → Option LoopState
+left_at seat i d = (slice_index_or seat.tokens.items i d).seat.me.0.left
 
 abbrev pub tries_at : ShelfSeat → ℕ → Token → ℕ
 tries_at seat i d = (slice_index_or seat.tokens.items i d).seat.me.0.tries
@@ -48,28 +55,9 @@ HasCell seat i = (d : Token) → turn_at seat i d ≡ true
 abbrev pub LacksCell : ShelfSeat → ℕ → Type 0
 LacksCell seat i = (d : Token) → turn_at seat i d ≡ false
 
--- FETCHED: it had the cell not, and has it
-pub record HasFetched (i : ℕ) (old new : ShelfSeat) : Type 0 where
-  pub lacked : LacksCell old i
-  pub has : HasCell new i
-  pub tries : (d : Token) → tries_at new i d ≡ tries_at old i d
-
--- FOUND OUT: one more of its tries, and it has the cell where it had it
-pub record HasFoundOut (i : ℕ) (old new : ShelfSeat) : Type 0 where
-  pub same : (d : Token) → turn_at new i d ≡ turn_at old i d
-  pub tries : (d : Token) → tries_at new i d ≡ tries_at old i d + 1
-
--- PUT BACK: it has the cell no more
-pub record HasPutBack (i : ℕ) (old new : ShelfSeat) : Type 0 where
-  pub lacks : LacksCell new i
-  pub tries : (d : Token) → tries_at new i d ≡ tries_at old i d
-
--- what it has of the others is as before
-abbrev pub AreOthersLeft : ℕ → ShelfSeat → ShelfSeat → Type 0
-AreOthersLeft i old new = (j : ℕ) (d : Token) → j ≢ i
-    → slice_index_or new.tokens.items j d ≡ slice_index_or old.tokens.items j d
-
 -- NEW: no cell, and no try
 pub record IsNewSeat (shelf : Shelf) (seat : ShelfSeat) : Type 0 where
   pub lacks : (i : ℕ) → i < length (cells_of shelf) → LacksCell seat i
+  pub bare : (i : ℕ) (d : Token) → i < length (cells_of shelf)
+      → (took_at seat i d ≡ None) × (left_at seat i d ≡ None)
   pub tries : (i : ℕ) (d : Token) → i < length (cells_of shelf) → tries_at seat i d ≡ 0

@@ -1,6 +1,6 @@
 -- The rule of the shelf: a cell is at home in its slot, or just one seat has its turn.
 -- Source: this project's own.
-use Rattle.std.specs.Prelude.{◌≡◌, ◌⊎◌, ℕ, true, false, List, Option, Some, length, slice_get, slice_index}
+use Rattle.std.specs.Prelude.{◌≡◌, ◌⊎◌, ℕ, true, false, List, Option, None, Some, length, slice_get, slice_index}
 use mathlib.Core.Option.{some, none}
 use lib.ListN.{get_elem?}
 use Rattle.atomic_table.specs.Table.{State}
@@ -44,4 +44,11 @@ pub record Holds (made : List LoopState) (s : ShelfState) : Type 0 where
 
 -- the first seat has no cell
 abbrev pub root_view : List LoopState → CellView
-root_view made = record { cell = length made; has = false; tries = 0; made = made }
+root_view made = record {
+  cell = length made;
+  has = false;
+  tries = 0;
+  took = None;
+  left = None;
+  made = made;
+}

@@ -1,5 +1,5 @@
 //! What one seat has of one cell.
-ghost use Rattle.std.specs.Prelude.{◌≡◌, ◌<◌, [], ◌∷◌, true, false, None, IfSome, IfNone, length};
+ghost use Rattle.std.specs.Prelude.{◌≡◌, ◌<◌, [], ◌∷◌, true, false, None, Some, IfSome, IfNone, length};
 ghost use Rattle.steal_shelf.specs.Seats.{table_of, cells_of};
 ghost use Rattle.steal_shelf.specs.working.ShelfSteps.{IsCellOf, dealt, tried, taken, rested};
 ghost use Rattle.steal_shelf.specs.working.Tokens.{IsDealt};
@@ -25,7 +25,7 @@ pub(crate) fn fetch_token(shelf: &Shelf, token: &mut Token) -> Option<LoopState>
         × (token.new.cell ≡ token.old.cell) }
     ensures some { IfSome result (λ s. IsCellOf token.old.seat.me.0 s
         × (token.old.seat.me.0.has ≡ false)
-        × (token.new.seat.me.0 ≡ taken token.old.seat.me.0)
+        × (token.new.seat.me.0 ≡ taken s token.old.seat.me.0)
         × (token.new.seat.me.1 ≡ (token.old.cell, None) ∷ token.old.seat.me.1)) }
     ensures none { IfNone result ((token.new.seat.me.0 ≡ tried token.old.seat.me.0)
         × (token.new.seat.me.1 ≡ token.old.seat.me.1)) }
@@ -47,7 +47,7 @@ pub(crate) fn put_token(shelf: &Shelf, token: &mut Token, state: LoopState)
     requires allowed { IsCellOf token.old.seat.me.0 state }
     ensures own { (token.new.seat.table_id ≡ token.old.seat.table_id)
         × (token.new.cell ≡ token.old.cell) }
-    ensures rests { (token.new.seat.me.0 ≡ rested token.old.seat.me.0)
+    ensures rests { (token.new.seat.me.0 ≡ rested (Some state) token.old.seat.me.0)
         × (token.new.seat.me.1 ≡ []) }
 {
     let words = &shelf.table.shared;

@@ -5,7 +5,8 @@ use Rattle.std.specs.Prelude.{◌≡◌, ℕ}
 use Rattle.data_loop.specs.declared.loop_state.LoopState.{LoopState}
 use Rattle.driver_cycle.specs.Waking.{HasSent}
 use Rattle.steal_shelf.specs.working.CellSteps.{HasStepped}
-use Rattle.steal_shelf.specs.Seats.{IsAllowed, LacksCell, HasFoundOut}
+use Rattle.steal_shelf.specs.Fetching.{HasFoundOut}
+use Rattle.steal_shelf.specs.Seats.{IsAllowed, LacksCell}
 use Rattle.steal_loops.specs.declared.shared.Shared.{Shared}
 use Rattle.steal_loops.specs.declared.claimant.Claimant.{Claimant}
 use Rattle.steal_loops.specs.declared.visiting.Visited.{Visited}

@@ -14,3 +14,8 @@ store-requires c = let t = c.args.token.now in let s = c.args.shelf.now.table.sh
       subst (λ (m : ShelfMe). Allows (Holds s.key.cells.value) slots id m i (λ _. 0) (λ _. HasReturned m)) (sym e)
           (returns_cell s.key.cells.value slots id i (t.seat.me.0, (i, Some x) ∷ []) x (sym c.requires.cell) c.requires.inside c.requires.has.0 refl c.requires.allowed),
     )
+
+pub returns-clause-rests : goal.returns-clause-rests
+returns-clause-rests c = let t = c.args.token.now in let x = c.args.state in let i : ℕ = t.cell in
+    let e : c.exchange-none.new.seat.me ≡ (t.seat.me.0, (i, Some x) ∷ []) = c.exchange-none.ensures.3 ∙ ap (λ l. (t.seat.me.0, (i, Some x) ∷ rest l)) c.requires.has.1 in
+    let h : HasReturned (t.seat.me.0, (i, Some x) ∷ []) c.store.new.seat.me = subst (λ (m : ShelfMe). HasReturned m c.store.new.seat.me) e c.store.ensures.2 in (h.0, h.1)

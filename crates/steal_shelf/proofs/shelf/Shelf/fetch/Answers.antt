@@ -23,7 +23,7 @@ returns-clause-some c = let f = c.args.self.now in let old = c.args.seat.now in 
     let low = subst (λ n. i < n) (sym c.requires.seat.count) c.requires.cell in
     map_some c.fetch_token.result _ _
     (λ (s : LoopState) h. (
-      fetched f old new i x y c.requires.seat c.requires.cell refl (λ d. sym (c.index_mut.ensures.value ∙ get_or_default old.tokens.items i x d low)) h.1 h.2,
+      fetched f old new i x y c.requires.seat c.requires.cell refl (λ d. sym (c.index_mut.ensures.value ∙ get_or_default old.tokens.items i x d low)) s h.1 h.2,
       allowed_is f i x t s h.0,
     )) c.fetch_token.ensures.some
 

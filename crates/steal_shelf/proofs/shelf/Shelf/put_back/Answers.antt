@@ -21,7 +21,7 @@ returns-clause-seat c = let f = c.args.self.now in let i : ℕ = c.args.cell in 
     let y : Token = c.put_token.new.token in
     let t : IsTokenOf f i x = subst (IsTokenOf f i) (sym c.index_mut.ensures.value) (c.requires.seat.tokens i x c.requires.cell) in
     seat_again f c.args.seat.now _ i y c.requires.seat c.requires.cell refl
-    (rested_token f i x y t c.put_token.ensures.own.0 c.put_token.ensures.own.1 c.put_token.ensures.rests.0 c.put_token.ensures.rests.1)
+    (rested_token f i x y t c.put_token.ensures.own.0 c.put_token.ensures.own.1 c.args.state c.put_token.ensures.rests.0 c.put_token.ensures.rests.1)
 
 pub returns-clause-others : goal.returns-clause-others
 returns-clause-others c = others_left c.args.self.now c.args.seat.now (record { tokens = with_item c.args.seat.now.tokens c.args.cell c.put_token.new.token }) c.args.cell c.put_token.new.token c.requires.seat c.requires.cell refl
@@ -31,4 +31,4 @@ returns-clause-back c = let f = c.args.self.now in let old = c.args.seat.now in 
     let x : Token = c.index_mut.result.now in let y : Token = c.put_token.new.token in
     let low = subst (λ n. i < n) (sym c.requires.seat.count) c.requires.cell in
     put_again f old (record { tokens = with_item old.tokens i y }) i x y c.requires.seat c.requires.cell refl
-    (λ d. sym (c.index_mut.ensures.value ∙ get_or_default old.tokens.items i x d low)) c.put_token.ensures.rests.0
+    (λ d. sym (c.index_mut.ensures.value ∙ get_or_default old.tokens.items i x d low)) c.args.state c.put_token.ensures.rests.0
