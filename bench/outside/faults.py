@@ -1,5 +1,5 @@
 """Faults that people make, each with its sentence; and scripts that can be read only once."""
-from messages import told
+from messages import UNWRITTEN, told
 
 START = "quantum 4\nsquare s 48000 1 4 9\nsink o o.wav\ngain g 256\nmix2 m 256 256\nsplit t\n"
 
@@ -117,7 +117,7 @@ def once(place):
     place.file("own.graph", "quantum 4\nsquare s 48000 1 4 9\nsink a own.graph\nsink o no/o.wav\n"
                "link s.out a.in\nlink s.out o.in\ncycles 1\n")
     place.same("a script that a sink overwrites",
-               (7, b"write 4\n", b"pipegraph: own.graph:4: no/o.wav: the file cannot be written\n"),
+               (7, b"write 4\n", f"pipegraph: own.graph:4: no/o.wav: {UNWRITTEN}\n".encode()),
                told(place, ["run", "own.graph"]))
     place.same("a word that is no text", (1, b"", b"pipegraph: word 2 is not text in UTF-8\n"),
                told(place, [b"run", b"a\xff"]))

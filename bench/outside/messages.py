@@ -9,6 +9,8 @@ SYNOPSIS = """usage: pipegraph run SCRIPT [--loops N] [--ticks N] [--trace] [--s
        pipegraph soak NUMBER
        pipegraph groups SCRIPT
 """
+UNWRITTEN = ("the file cannot be written, as where there is no such folder, it is a folder, "
+             "it may not be written, or no room is left")
 
 
 def told(place, words, **how):
@@ -36,11 +38,12 @@ def sentences(place):
              "gone.graph:1: gone.wav: there is no such file; "
              "file words are paths from the working directory"),
             (["run", "none.graph"], 5, "absent 0\n", "none.graph: there is no such file"),
-            (["run", "."], 6, "read 0\n", ".: the file cannot be read"),
+            (["run", "."], 6, "read 0\n",
+             ".: the file cannot be read, as where it is a folder or may not be read"),
             (["run", "pod.graph"], 4, "pod 2 6 1481001298\n",
              "pod.graph:2: vox.wav: a POD of more than 1048576 bytes: 1481001298"),
             (["run", "store.graph"], 7, "write 2\n",
-             "store.graph:2: no/o.wav: the file cannot be written"),
+             f"store.graph:2: no/o.wav: {UNWRITTEN}"),
             (["dump", "vox.wav"], 4, "pod 1 6 1481001298\n",
              "vox.wav: a POD of more than 1048576 bytes: 1481001298"),
             (["check", "fine.graph", "none"], 5, "absent 4294967295\n",

@@ -638,12 +638,13 @@ const FILES: &'static [Said] = &[
             ..OF_NONE
         },
         Status::ReadFault { place: 1 },
-        b"the file cannot be read",
+        b"the file cannot be read, as where it is a folder or may not be read",
     ),
     (
         OF_SINK,
         Status::WriteFault { place: 4 },
-        b"the file cannot be written",
+        b"the file cannot be written, as where there is no such folder, it is a folder, \
+            it may not be written, or no room is left",
     ),
     (
         OF_NONE,

@@ -33,6 +33,14 @@ abbrev pub absent_said : Option (List ℕ) → List ℕ
 absent_said None = codes "there is no such file"
 absent_said (Some line) = absent_text (file_word (words_of line))
 
+-- that the system does not read or write it; its own reason is not at hand
+abbrev pub read_said : List ℕ
+read_said = codes "the file cannot be read, as where it is a folder or may not be read"
+
+abbrev pub write_said : List ℕ
+write_said = codes "the file cannot be written, as where there is no such folder, it is a folder,"
+    ++ codes " it may not be written, or no room is left"
+
 abbrev pub limit_said : Which → List ℕ
 limit_said W.ScriptBytes = codes "more than 1048576 bytes"
 limit_said W.WavBytes = codes "more than 268435456 bytes"

@@ -5,7 +5,7 @@ use Rattle.pw_top.specs.declared.status.Status.TheVariants as S
 use Rattle.fault_messages.specs.Places.{Words, word, place_text, file_part, lines_before}
 use Rattle.fault_messages.specs.ScriptMessages.{script_said}
 use Rattle.fault_messages.specs.PodMessages.{pod_said}
-use Rattle.fault_messages.specs.FileMessages.{wav_said, absent_said, limit_text}
+use Rattle.fault_messages.specs.FileMessages.{wav_said, absent_said, read_said, write_said, limit_text}
 use Rattle.fault_messages.specs.Help.{help}
 use Rattle.fault_messages.specs.Usages.{usage_text}
 
@@ -32,10 +32,10 @@ sentence (S.Pod place why) words line script = at_place words place (file_part l
 sentence (S.Absent place) words line script =
     at_place words place (file_part line ++ absent_said line)
 sentence (S.ReadFault place) words line script =
-    at_place words place (file_part line ++ codes "the file cannot be read")
+    at_place words place (file_part line ++ read_said)
 sentence (S.WriteFault place) words line script =
     if place == 0 then codes "standard output cannot be written"
-    else at_place words place (file_part line ++ codes "the file cannot be written")
+    else at_place words place (file_part line ++ write_said)
 sentence (S.Limit place which) words line script = at_place words place (limit_text which line)
 sentence S.Memory words line script = codes "no memory was left"
 

@@ -1,7 +1,8 @@
 //! What is wrong with a file, in words.
 ghost use Rattle.std.specs.Prelude.{◌≡◌, ◌==◌, ◌++◌, option_copied, OnOk};
 ghost use Rattle.std.specs.List.{list_any};
-ghost use Rattle.fault_messages.specs.FileMessages.{wav_said, absent_text, absent_said, limit_said, is_of_file, limit_text};
+ghost use Rattle.fault_messages.specs.FileMessages.{wav_said, absent_text, absent_said, read_said, write_said};
+ghost use Rattle.fault_messages.specs.FileMessages.{limit_said, is_of_file, limit_text};
 
 use crate::lines::begins;
 use crate::places::{file_word, put_file};
@@ -58,6 +59,21 @@ pub fn absent_said(line: Option<&[u8]>) -> &'static [u8]
         None => b"there is no such file",
         Some(line) => absent_text(file_word(line)),
     }
+}
+
+/// That a file is not read.
+pub fn read_said() -> &'static [u8]
+    ensures { result.now ≡ read_said }
+{
+    b"the file cannot be read, as where it is a folder or may not be read"
+}
+
+/// That a file is not written.
+pub fn write_said() -> &'static [u8]
+    ensures { result.now ≡ write_said }
+{
+    b"the file cannot be written, as where there is no such folder, it is a folder, \
+        it may not be written, or no room is left"
 }
 
 /// What passes a limit.

@@ -4,7 +4,7 @@ ghost use Rattle.fault_messages.specs.Places.{place_text, file_part};
 ghost use Rattle.fault_messages.specs.Message.{is_help_word, asks_help};
 ghost use Rattle.fault_messages.specs.Message.{synopsis, at_place, sentence, before, after, message_of, words_message};
 
-use crate::file_messages::{absent_said, put_limit, wav_said};
+use crate::file_messages::{absent_said, put_limit, read_said, wav_said, write_said};
 use crate::help::help;
 use crate::places::{put_file, put_place, word_at};
 use crate::pod_messages::put_pod;
@@ -79,13 +79,9 @@ fn put_sentence(
             put_pod(text, why)
         }
         Status::Absent { place } => put_file_fault(text, words, place, line, absent_said(line)),
-        Status::ReadFault { place } => {
-            put_file_fault(text, words, place, line, b"the file cannot be read")
-        }
+        Status::ReadFault { place } => put_file_fault(text, words, place, line, read_said()),
         Status::WriteFault { place: 0 } => text.extend(b"standard output cannot be written"),
-        Status::WriteFault { place } => {
-            put_file_fault(text, words, place, line, b"the file cannot be written")
-        }
+        Status::WriteFault { place } => put_file_fault(text, words, place, line, write_said()),
         Status::Limit { place, which } => {
             put_colon(text, words, place)?;
             put_limit(text, which, line)
