@@ -67,11 +67,26 @@ def others(place):
     place.file("fine.graph", "cycles 1\n")
     _, trace, _ = told(place, ["run", "fine.graph", "--trace"])
     events = trace.decode().splitlines()
-    cannot = "this event cannot come here; past the last line, the trace ends too soon"
+    soon = "past the last line, the trace ends too soon"
+    open_cycle = f"cycle 0 has begun and not ended; {soon}"
     for lines, answer, said in [
             (events, "legal\n", ""),
-            (events[:-1], f"illegal {len(events)}\n", f"t.txt:{len(events)}: {cannot}"),
-            (events[:1] * 2, "illegal 2\n", f"t.txt:2: {cannot}"),
+            (events[:-1], "illegal 4\n", f"t.txt:4: {open_cycle}"),
+            (events[:1] * 2, "illegal 2\n", f"t.txt:2: {open_cycle}"),
+            ([], "illegal 1\n", f"t.txt:1: only begin 0 can come here; {soon}"),
+            (events + ["begin 1"], "illegal 5\n",
+             "t.txt:5: no event can come here: the script has no further cycle"),
+            (["begin 0", "end 0"], "illegal 2\n",
+             f't.txt:2: cycle 0 cannot end before "dummy" has finished; {soon}'),
+            (["begin 0", "start 0 dummy", "start 0 dummy"], "illegal 3\n",
+             "t.txt:3: its node has started in this cycle already"),
+            (["begin 0", "finish 0 dummy"], "illegal 2\n",
+             "t.txt:2: its node has not started in this cycle"),
+            (["begin 0", "tick 0", "tick 0"], "illegal 3\n",
+             "t.txt:3: a tick has come in this cycle already"),
+            (["begin 0", "tick 0 dummy"], "illegal 2\n",
+             't.txt:2: "dummy" cannot be late: '
+             "it is no active follower, or has finished in this cycle"),
             (events[:1] + ["start"], "line 2\n", "t.txt:2: no event line; "
              "grep -E '^(begin|start|finish|tick|end) ' takes those of a run's text")]:
         place.file("t.txt", "".join(line + "\n" for line in lines))

@@ -21,6 +21,8 @@ mod programs;
 #[cfg(test)]
 mod quoting;
 #[cfg(test)]
+mod reasons;
+#[cfg(test)]
 mod traces;
 #[cfg(test)]
 mod usages;

@@ -2,7 +2,7 @@
 //! sinks of one file, and what a check and a filter find.
 
 use fault_messages::explain;
-use pw_top::Status;
+use pw_top::{Found, Status, What};
 use row_files::words_of;
 use std::alloc::Global;
 
@@ -127,7 +127,17 @@ fn is_noted(alloc: Global, row: Noted) -> bool {
     let Ok(words) = words_of(alloc, row.command) else {
         return false;
     };
-    match explain(alloc, &Status::Ok, words.as_slice(), row.script, row.told) {
+    let found = Found {
+        what: What::Nothing,
+    };
+    match explain(
+        alloc,
+        &Status::Ok,
+        &found,
+        words.as_slice(),
+        row.script,
+        row.told,
+    ) {
         Ok(text) => text.as_slice() == row.notes,
         Err(_memory) => false,
     }

@@ -2,7 +2,7 @@
 
 use fault_messages::explain;
 use graph_script::ScriptWhy;
-use pw_top::Status;
+use pw_top::{Found, Status, What};
 use row_files::words_of;
 use std::alloc::Global;
 
@@ -14,7 +14,10 @@ fn is_explained(alloc: Global, command: &str, status: Status, said: &[u8]) -> bo
     let Ok(words) = words_of(alloc, command) else {
         return false;
     };
-    match explain(alloc, &status, words.as_slice(), Some(VOX), None) {
+    let found = Found {
+        what: What::Nothing,
+    };
+    match explain(alloc, &status, &found, words.as_slice(), Some(VOX), None) {
         Ok(text) => text.as_slice() == said,
         Err(_memory) => false,
     }

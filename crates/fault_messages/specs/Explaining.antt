@@ -1,11 +1,16 @@
 -- The message of a status, with the line of the script that it names, by the bytes of the script
 -- that the run read; and the notes on a command that was accepted. Source: this project's own.
 use Rattle.std.specs.Prelude.{ℕ, List, [], ◌++◌, Option, Some, None, if◌then◌else◌}
+use Rattle.pw_top.specs.declared.found.Found.{Found}
+use Rattle.pw_top.specs.declared.found.What.{What}
+use Rattle.pw_top.specs.declared.found.What.TheVariants.{Nothing, Check}
 use Rattle.pw_top.specs.declared.status.Status.{Status}
 use Rattle.pw_top.specs.declared.status.Status.TheVariants as S
+use Rattle.trace_check.specs.declared.reasons.Reason.{Reason}
 use Rattle.fault_messages.specs.Places.{Words, is_line, line_at}
 use Rattle.fault_messages.specs.Message.{message_of}
 use Rattle.fault_messages.specs.Notes.{notes}
+use Rattle.fault_messages.specs.ReasonNotes.{reason_note}
 
 -- the place of a status
 abbrev pub place_of : Status → Option ℕ
@@ -32,13 +37,23 @@ abbrev pub bytes_in : Option (List ℕ) → List ℕ
 bytes_in None = []
 bytes_in (Some bytes) = bytes
 
-abbrev pub noted : Status → Words → Option (List ℕ) → Option (List ℕ) → List ℕ
-noted S.Ok words script told = notes words script told
-noted _ words script told = []
+-- the reason that a check found
+abbrev pub reason_in : What → Option Reason
+reason_in Nothing = None
+reason_in (Check reason) = reason
 
--- THE MESSAGE of a status, by the words, by the bytes of the script and by the text that was put,
--- where they are at hand
-unfoldable pub explained : Status → Words → Option (List ℕ) → Option (List ℕ) → List ℕ
-explained status words script told =
+-- the notes: by the reason, where one was found, and by the text else
+abbrev pub noted_by : Option Reason → Words → Option (List ℕ) → Option (List ℕ) → List ℕ
+noted_by None words script told = notes words script told
+noted_by (Some r) words script told = reason_note words script r
+
+abbrev pub noted : Status → Found → Words → Option (List ℕ) → Option (List ℕ) → List ℕ
+noted S.Ok found words script told = noted_by (reason_in found.what) words script told
+noted _ found words script told = []
+
+-- THE MESSAGE of a status, by what was found, by the words, by the bytes of the script and by the
+-- text that was put, where these two are at hand
+unfoldable pub explained : Status → Found → Words → Option (List ℕ) → Option (List ℕ) → List ℕ
+explained status found words script told =
     message_of status words (line_named (place_of status) words script) (bytes_in script)
-    ++ noted status words script told
+    ++ noted status found words script told

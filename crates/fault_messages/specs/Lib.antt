@@ -13,11 +13,13 @@ pub mod Message
 pub mod NameRules
 pub mod Nearest
 pub mod Nearness
+pub mod NodeNames
 pub mod Notes
 pub mod NumberRules
 pub mod Places
 pub mod PodMessages
 pub mod PortEnds
+pub mod ReasonNotes
 pub mod ReportedLines
 pub mod ScriptMessages
 pub mod ScriptWords

@@ -1,15 +1,18 @@
 //! The message of a status, with the line of the script that it names, and the notes on a command
 //! that was accepted.
 ghost use Rattle.std.specs.Prelude.{◌≡◌, ◌++◌, map, string_bytes, option_copied, OnOk, IfOk};
-ghost use Rattle.fault_messages.specs.Explaining.{place_of, line_in, line_named, bytes_in, noted, explained};
+ghost use Rattle.fault_messages.specs.Explaining.{place_of, line_in, line_named, bytes_in};
+ghost use Rattle.fault_messages.specs.Explaining.{reason_in, noted_by, noted, explained};
 
 use crate::lines::line_at;
 use crate::notes::put_notes;
 use crate::places::is_line;
+use crate::reason_notes::put_reason_note;
 use crate::sentences::message;
 use pw_lists::{Memory, Text};
-use pw_top::Status;
+use pw_top::{Found, Status, What};
 use std::alloc::Global;
+use trace_check::Reason;
 
 // The place that a status names.
 fn place_of(status: &Status) -> Option<u32>
@@ -68,42 +71,71 @@ fn bytes_in(script: Option<&[u8]>) -> &[u8]
     }
 }
 
-// The notes, where all was done.
-fn put_noted(
+// The reason that a check found.
+fn reason_in(what: What) -> Option<Reason>
+    ensures { result ≡ reason_in what }
+{
+    match what {
+        What::Nothing => None,
+        What::Check { reason } => reason,
+    }
+}
+
+// The notes, by the reason where one was found.
+fn put_noted_by(
     text: &mut Text,
-    status: &Status,
+    reason: Option<Reason>,
     words: &[String],
     script: Option<&[u8]>,
     told: Option<&[u8]>,
 ) -> Result<(), Memory>
-    ensures { OnOk result (text.new ≡ text.old ++ noted status.now (map string_bytes words.now)
+    ensures { OnOk result (text.new ≡ text.old ++ noted_by reason (map string_bytes words.now)
         (option_copied script.entry) (option_copied told.entry)) }
 {
+    match reason {
+        None => put_notes(text, words, script, told),
+        Some(reason) => put_reason_note(text, words, script, reason),
+    }
+}
+
+// The notes, where all was done.
+fn put_noted(
+    text: &mut Text,
+    status: &Status,
+    found: &Found,
+    words: &[String],
+    script: Option<&[u8]>,
+    told: Option<&[u8]>,
+) -> Result<(), Memory>
+    ensures { OnOk result (text.new ≡ text.old ++ noted status.now found.now
+        (map string_bytes words.now) (option_copied script.entry) (option_copied told.entry)) }
+{
     match status {
-        Status::Ok => put_notes(text, words, script, told),
+        Status::Ok => put_noted_by(text, reason_in(found.what), words, script, told),
         _ => Ok(()),
     }
 }
 
-/// The message of a status in words, by the words of the command line without the program's name,
-/// by the bytes of the script that the run read and by the text that it put, where these are
-/// known. Where the status names a line of a script, the message has the names of that line. Where
-/// all was done, it has a note for each link that was not made, for each sink and meter without a
-/// format, for each sink that a later one overwrote, and for what a check or a filter found.
-/// Nothing is loaded.
+/// The message of a status in words, by what the run found, by the words of the command line
+/// without the program's name, by the bytes of the script that the run read and by the text that it
+/// put, where these two are known. Where the status names a line of a script, the message has the
+/// names of that line. Where all was done, it has a note for each link that was not made, for each
+/// sink and meter without a format, for each sink that a later one overwrote, and for what a check
+/// or a filter found. Nothing is loaded.
 #[tactic(auto, unfolding(crate::specs::Explaining::explained))]
 pub fn explain(
     alloc: Global,
     status: &Status,
+    found: &Found,
     words: &[String],
     script: Option<&[u8]>,
     told: Option<&[u8]>,
 ) -> Result<Text, Memory>
-    ensures { IfOk result (λ text. text ≡ explained status.now (map string_bytes words.now)
-        (option_copied script.entry) (option_copied told.entry)) }
+    ensures { IfOk result (λ text. text ≡ explained status.now found.now
+        (map string_bytes words.now) (option_copied script.entry) (option_copied told.entry)) }
 {
     let line = line_named(place_of(status), words, script);
     let mut text = message(alloc, status, words, line, bytes_in(script))?;
-    put_noted(&mut text, status, words, script, told)?;
+    put_noted(&mut text, status, found, words, script, told)?;
     Ok(text)
 }
