@@ -2,7 +2,7 @@
 import os
 
 from messages import told
-from worked import choice, number, thing
+from worked import choice, number, thing, wav
 
 START = """quantum 4
 square a 48000 1 4 9
@@ -42,6 +42,40 @@ LINKS = [
      [(5, '"o.wav" is written by a later sink too, whose frames stand'),
       (9, '"m" had no format at the end, so it has no peak'),
       (10, '"p" had no format at the end, so it does not write "p.wav"')])]
+
+EMPTY = "has no frames, so what it writes to"
+NEVER = "it was active in no cycle since it got its format"
+GROUPS = "; groups gives each linked part a driver of its own"
+PAIR = "square a 48000 1 4 9\nsink o o.wav\nlink a.out o.in\n"
+
+# Scripts, what is put of their sinks and meters, and what is noted at which line.
+SINKS = [
+    (PAIR + "meter m\nlink a.out m.in\n", "wrote o 0\npeak m 0\n",
+     [(2, f'"o" {EMPTY} "o.wav" is an empty WAV file: '
+      "the script has no cycles line and no drain line"),
+      (4, '"m" got no frames, so its peak is 0: the script has no cycles line and no drain line')]),
+    (PAIR + "drain\n", "wrote o 0\n",
+     [(2, f'"o" {EMPTY} "o.wav" is an empty WAV file: {NEVER}; '
+       f"drain goes on only while an active source has frames left{GROUPS}")]),
+    ("quantum 4\n" + PAIR + "meter m\ndriver m 1\ncycles 2\nlink a.out m.in\ncycles 1\n",
+     "wrote o 4\npeak m 9\n", []),
+    ("quantum 4\n" + PAIR + "meter m\ndriver m 1\ncycles 2\nlink a.out m.in\n",
+     "wrote o 0\npeak m 0\n",
+     [(3, f'"o" {EMPTY} "o.wav" is an empty WAV file: {NEVER}{GROUPS}')]),
+    ("quantum 4\nsource s in.wav\nsink o in.wav\nsink p in.wav\nlink s.out p.in\ncycles 1\n",
+     "unused o\nwrote p 4\n",
+     [(3, '"o" had no format at the end, so it does not write "in.wav", which another sink writes'),
+      (4, '"in.wav" is a source\'s file too, and was overwritten')])]
+
+
+def sinks(place):
+    """Notes on sinks and meters without frames, and on files of sinks."""
+    for script, text, notes in SINKS:
+        place.file("some.graph", script)
+        place.file("in.wav", wav([1, 2, 3]))
+        said = "".join(f"pipegraph: some.graph:{n}: {note}\n" for n, note in notes)
+        status, out, errors = told(place, ["run", "some.graph"])
+        place.same(script, (0, True, said), (status, out.endswith(text.encode()), errors.decode()))
 
 
 def links(place):

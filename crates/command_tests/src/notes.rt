@@ -1,5 +1,5 @@
 //! The table of notes: each cause of a link that is not made, sinks and meters without a format,
-//! sinks of one file, and what a check and a filter find.
+//! sinks of one file, of a source's file and without frames, and what a check and a filter find.
 
 use fault_messages::explain;
 use pw_top::{Found, Status, What};
@@ -62,15 +62,78 @@ const SINKS: &'static [Noted] = &[
         script: Some(b"sink o o.wav\nmeter m\nsink p o.wav\nmeter n\n"),
         told: Some(b"unused o\nunused m\nwrote p 4\npeak n 3\n"),
         notes: b"pipegraph: t.graph:1: \"o\" had no format at the end, \
-            so it does not write \"o.wav\"\n\
+            so it does not write \"o.wav\", which another sink writes\n\
             pipegraph: t.graph:2: \"m\" had no format at the end, so it has no peak\n",
         ..RUN
     },
     Noted {
-        script: Some(b"sink o o.wav\nsink p o.wav\nsink q q.wav\nsink r o.wav\n"),
-        told: Some(b"wrote o 4\nwrote p 4\nwrote q 4\nunused r\n"),
+        script: Some(b"sink o o.wav\nsink p o.wav\nsink q q.wav\nsink r o.wav\nsink s s.wav\n"),
+        told: Some(b"wrote o 4\nwrote p 4\nwrote q 4\nunused r\nunused s\n"),
         notes: b"pipegraph: t.graph:1: \"o.wav\" is written by a later sink too, whose frames stand\n\
-            pipegraph: t.graph:4: \"r\" had no format at the end, so it does not write \"o.wav\"\n",
+            pipegraph: t.graph:4: \"r\" had no format at the end, \
+            so it does not write \"o.wav\", which another sink writes\n\
+            pipegraph: t.graph:5: \"s\" had no format at the end, so it does not write \"s.wav\"\n",
+        ..RUN
+    },
+    Noted {
+        script: Some(b"sink o v.wav\nsource v v.wav\nsink p v.wav\nsink q v.wav\ncycles 2\n"),
+        told: Some(b"wrote o 4\nwrote p 8\nunused q\n"),
+        notes: b"pipegraph: t.graph:1: \"v.wav\" is written by a later sink too, whose frames stand\n\
+            pipegraph: t.graph:1: \"v.wav\" is a source's file too, and was overwritten\n\
+            pipegraph: t.graph:3: \"v.wav\" is a source's file too, and was overwritten\n\
+            pipegraph: t.graph:4: \"q\" had no format at the end, \
+            so it does not write \"v.wav\", which another sink writes\n",
+        ..RUN
+    },
+];
+
+/// Sinks and meters without frames.
+const EMPTY: &'static [Noted] = &[
+    Noted {
+        script: Some(b"# cycles 1\nsink o n1.wav\nmeter m\nmeter cycles\nsource v n1.wav\n"),
+        told: Some(b"wrote o 0\npeak m 0\nunused cycles\n"),
+        notes: b"pipegraph: t.graph:2: \"n1.wav\" is a source's file too, and was overwritten\n\
+            pipegraph: t.graph:2: \"o\" has no frames, so what it writes to \"n1.wav\" is an empty \
+            WAV file: the script has no cycles line and no drain line\n\
+            pipegraph: t.graph:3: \"m\" got no frames, so its peak is 0: \
+            the script has no cycles line and no drain line\n\
+            pipegraph: t.graph:4: \"cycles\" had no format at the end, so it has no peak\n",
+        ..RUN
+    },
+    Noted {
+        script: Some(b"sink o o.wav\nmeter m\n\tdrain\r\n"),
+        told: Some(b"wrote o 0\npeak m 0\n"),
+        notes: b"pipegraph: t.graph:1: \"o\" has no frames, so what it writes to \"o.wav\" is an empty \
+            WAV file: it was active in no cycle since it got its format; \
+            drain goes on only while an active source has frames left; \
+            groups gives each linked part a driver of its own\n",
+        ..RUN
+    },
+    Noted {
+        script: Some(b"sink o o.wav\nmeter m\nsink p p.wav\ndrain\ncycles 3\n"),
+        told: Some(b"wrote o 0\npeak m 0\nwrote p 10\n"),
+        notes: b"pipegraph: t.graph:1: \"o\" has no frames, so what it writes to \"o.wav\" is an empty \
+            WAV file: it was active in no cycle since it got its format; \
+            groups gives each linked part a driver of its own\n",
+        ..RUN
+    },
+    Noted {
+        command: "groups t.graph",
+        script: Some(b"sink o o.wav\nsink p p.wav\ncycles 3\n"),
+        told: Some(b"wrote o 0\nwrote p 0\n"),
+        notes: b"pipegraph: t.graph:1: \"o\" has no frames, so what it writes to \"o.wav\" is an empty \
+            WAV file: it was active in no cycle since it got its format\n\
+            pipegraph: t.graph:2: \"p\" has no frames, so what it writes to \"p.wav\" is an empty \
+            WAV file: it was active in no cycle since it got its format\n",
+        ..RUN
+    },
+    Noted {
+        command: "groups t.graph",
+        script: Some(b"sink o o.wav\ndrain\n"),
+        told: Some(b"wrote o 0\n"),
+        notes: b"pipegraph: t.graph:1: \"o\" has no frames, so what it writes to \"o.wav\" is an empty \
+            WAV file: it was active in no cycle since it got its format; \
+            drain goes on only while an active source has frames left\n",
         ..RUN
     },
 ];
@@ -161,6 +224,11 @@ fn a_link_that_is_not_made_has_a_note(rt: HostRuntime) {
 #[test]
 fn sinks_without_a_format_or_of_one_file_have_notes(rt: HostRuntime) {
     assert_eq!(rt; note_unlike(rt.alloc(), SINKS), None);
+}
+
+#[test]
+fn sinks_and_meters_without_frames_have_notes(rt: HostRuntime) {
+    assert_eq!(rt; note_unlike(rt.alloc(), EMPTY), None);
 }
 
 #[test]

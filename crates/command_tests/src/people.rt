@@ -361,7 +361,9 @@ const NOTES: &'static [Asked] = &[
         code: 0,
         out: b"link c.out m.in 48000 2 2\nnolink a.out m.in 65540\npeak m 0\n",
         said: b"s.graph:5: \"a.out\" to \"m.in\" is no link: no common channels (key 65540); \
-            map NAME 1 0,0 makes two channels of one",
+            map NAME 1 0,0 makes two channels of one\n\
+            pipegraph: s.graph:3: \"m\" got no frames, so its peak is 0: \
+            the script has no cycles line and no drain line",
         ..RUN
     },
     Asked {
@@ -396,6 +398,64 @@ const NOTES: &'static [Asked] = &[
         out: b"line 1\n",
         said: b"t.txt:1: no event line; grep -E '^(begin|start|finish|tick|end) ' \
             takes those of a run's text",
+        ..RUN
+    },
+];
+
+/// Notes on sinks and meters.
+const SINKS: &'static [Asked] = &[
+    Asked {
+        script: b"source s s.wav\nsink o n1.wav\nmeter m\nlink s.out o.in\nlink s.out m.in\n",
+        code: 0,
+        out: b"link s.out o.in 48000 1 2\nlink s.out m.in 48000 1 2\nwrote o 0\npeak m 0\n",
+        said: b"s.graph:2: \"o\" has no frames, so what it writes to \"n1.wav\" is an empty \
+            WAV file: the script has no cycles line and no drain line\n\
+            pipegraph: s.graph:3: \"m\" got no frames, so its peak is 0: \
+            the script has no cycles line and no drain line",
+        ..RUN
+    },
+    Asked {
+        script: b"square q 48000 1 2 5\nsink o o.wav\nlink q.out o.in\ndrain\n",
+        code: 0,
+        out: b"link q.out o.in 48000 1 2\nwrote o 0\n",
+        said: b"s.graph:2: \"o\" has no frames, so what it writes to \"o.wav\" is an empty \
+            WAV file: it was active in no cycle since it got its format; \
+            drain goes on only while an active source has frames left; \
+            groups gives each linked part a driver of its own",
+        ..RUN
+    },
+    Asked {
+        script: b"square a 48000 1 2 5\nsink o o.wav\nlink a.out o.in\nmeter m\ndriver m 1\n\
+            square b 48000 1 2 5\nlink b.out m.in\ncycles 2\n",
+        code: 0,
+        out: b"link a.out o.in 48000 1 2\nlink b.out m.in 48000 1 2\nwrote o 0\npeak m 5\n",
+        said: b"s.graph:2: \"o\" has no frames, so what it writes to \"o.wav\" is an empty \
+            WAV file: it was active in no cycle since it got its format; \
+            groups gives each linked part a driver of its own",
+        ..RUN
+    },
+    Asked {
+        line: "groups s.graph",
+        script: b"cycles 1\nsquare a 48000 1 2 5\nsink o o.wav\nlink a.out o.in\n",
+        code: 0,
+        out: b"link a.out o.in 48000 1 2\nwrote o 0\n",
+        said: b"s.graph:3: \"o\" has no frames, so what it writes to \"o.wav\" is an empty \
+            WAV file: it was active in no cycle since it got its format",
+        ..RUN
+    },
+    Asked {
+        script: b"quantum 2\nsource s s.wav\nsink o s.wav\nlink s.out o.in\ncycles 2\n",
+        code: 0,
+        out: b"link s.out o.in 48000 1 2\nwrote o 4\n",
+        said: b"s.graph:3: \"s.wav\" is a source's file too, and was overwritten",
+        ..RUN
+    },
+    Asked {
+        script: b"quantum 2\nsource s s.wav\nsink o o.wav\nsink p o.wav\nlink s.out p.in\ncycles 2\n",
+        code: 0,
+        out: b"link s.out p.in 48000 1 2\nunused o\nwrote p 4\n",
+        said: b"s.graph:3: \"o\" had no format at the end, so it does not write \"o.wav\", \
+            which another sink writes",
         ..RUN
     },
 ];
@@ -498,6 +558,7 @@ fn wrong_lines_of_scripts_have_their_sentences(rt: HostRuntime) {
 #[test]
 fn notes_and_odd_names_are_shown(rt: HostRuntime) {
     assert_eq!(rt; first_unlike(&rt, NOTES, b""), None);
+    assert_eq!(rt; first_unlike(&rt, SINKS, b""), None);
     assert_eq!(rt; first_unlike(&rt, NAMES, b""), None);
 }
 

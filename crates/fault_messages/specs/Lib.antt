@@ -1,5 +1,6 @@
 pub mod ByteFaults
 pub mod CommandForms
+pub mod EmptySinks
 pub mod Escaping
 pub mod Explaining
 pub mod FileMessages
@@ -23,6 +24,8 @@ pub mod ReasonNotes
 pub mod ReportedLines
 pub mod ScriptMessages
 pub mod ScriptWords
+pub mod SinkFiles
 pub mod SinkNotes
+pub mod SuchLines
 pub mod UnknownNames
 pub mod Usages

@@ -13,7 +13,7 @@ use Rattle.fault_messages.specs.ReportedLines.{first_line}
 abbrev pub run_notes : List (List ℕ) → Option (List ℕ) → List ℕ → List ℕ
 run_notes words None told = []
 run_notes words (Some script) told = link_notes words 1 (lines_of script) told
-    ++ sink_notes words told 1 (lines_of script)
+    ++ sink_notes words told script 1 (lines_of script)
 
 -- of a check: the event of the trace of this number, or the line that is no event
 unfoldable pub trace_head : List ℕ → List ℕ → List ℕ

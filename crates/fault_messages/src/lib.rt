@@ -6,6 +6,7 @@
 
 mod byte_faults;
 mod command_forms;
+mod empty_sinks;
 mod escaping;
 mod explaining;
 mod file_messages;
@@ -30,7 +31,9 @@ mod reason_notes;
 mod reported_lines;
 mod script_messages;
 mod sentences;
+mod sink_files;
 mod sink_notes;
+mod such_lines;
 mod unknown_names;
 mod usages;
 

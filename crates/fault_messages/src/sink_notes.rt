@@ -1,60 +1,21 @@
-//! Sinks and meters that got no format, and sinks of one file, in words.
+//! Sinks and meters that got no format or no frames, and the files of sinks, in words.
 ghost use Rattle.std.specs.Prelude.{◌≡◌, ◌++◌, [], map, string_bytes, OnOk};
-ghost use Rattle.std.specs.List.{list_any};
 ghost use Rattle.std.specs.Option.{option_map_or};
 ghost use Rattle.graph_script.specs.Lexical.{lines_of, words_of};
-ghost use Rattle.fault_messages.specs.SinkNotes.{is_sink, is_meter, writes, is_written, unused_sink, unused_meter, overwritten};
-ghost use Rattle.fault_messages.specs.SinkNotes.{sink_note, meter_note, sink_part, sink_notes};
+ghost use Rattle.fault_messages.specs.SinkNotes.{is_meter, unused_sink, unused_other, unused_said, unused_meter};
+ghost use Rattle.fault_messages.specs.SinkNotes.{used_notes, sink_note, meter_note, sink_part, sink_notes};
 
+use crate::empty_sinks::{put_empty_note, put_still_note};
 use crate::lines::word_of;
-use crate::putting::{put_behind, put_note_head, put_quoted_pair};
+use crate::putting::{put_behind, put_note_head, put_quoted_pair, put_two_quoted};
 use crate::reported_lines::is_unused;
+use crate::sink_files::{is_sink, is_written_in, put_later_note, put_source_note};
 use pw_lists::{Memory, Text, next_piece};
-
-fn is_sink(line: &[u8]) -> bool
-    ensures { result ≡ is_sink (words_of line.now) }
-{
-    word_of(line, 0) == b"sink".as_slice()
-}
 
 fn is_meter(line: &[u8]) -> bool
     ensures { result ≡ is_meter (words_of line.now) }
 {
     word_of(line, 0) == b"meter".as_slice()
-}
-
-// Whether the line is that of a sink that wrote this file.
-fn writes(told: &[u8], file: &[u8], line: &[u8]) -> bool
-    ensures { result ≡ writes told.now file.now line.now }
-{
-    is_sink(line) && word_of(line, 2) == file && !is_unused(told, word_of(line, 1))
-}
-
-// Whether there is such a line.
-fn is_written_in(told: &[u8], file: &[u8], lines: &[u8]) -> bool
-    ensures { result ≡ list_any (writes told.now file.now) (lines_of lines.now) }
-{
-    let mut rest = lines;
-    loop {
-        let (line, after) = next_piece(rest, b'\n');
-        if writes(told, file, line) {
-            return true;
-        }
-        match after {
-            None => return false,
-            Some(more) => rest = more,
-        }
-    }
-}
-
-fn is_written(told: &[u8], file: &[u8], later: Option<&[u8]>) -> bool
-    ensures { result ≡ is_written told.now file.now
-        (option_map_or (λ lines. lines_of lines.now) later.entry []) }
-{
-    match later {
-        None => false,
-        Some(lines) => is_written_in(told, file, lines),
-    }
 }
 
 #[tactic(auto, unfolding(crate::specs::SinkNotes::unused_sink))]
@@ -69,6 +30,32 @@ fn put_unused_sink(text: &mut Text, name: &[u8], file: &[u8]) -> Result<(), Memo
     )
 }
 
+#[tactic(auto, unfolding(crate::specs::SinkNotes::unused_other))]
+fn put_unused_other(text: &mut Text, name: &[u8], file: &[u8]) -> Result<(), Memory>
+    ensures { OnOk result (text.new ≡ text.old ++ unused_other name.now file.now) }
+{
+    put_two_quoted(
+        text,
+        name,
+        b" had no format at the end, so it does not write ",
+        file,
+        b", which another sink writes",
+    )
+}
+
+// Of a sink without a format, whose file another may write.
+fn put_unused_said(text: &mut Text, told: &[u8], script: &[u8], line: &[u8]) -> Result<(), Memory>
+    ensures { OnOk result
+        (text.new ≡ text.old ++ unused_said told.now script.now (words_of line.now)) }
+{
+    let (name, file) = (word_of(line, 1), word_of(line, 2));
+    if is_written_in(told, file, script) {
+        put_unused_other(text, name, file)
+    } else {
+        put_unused_sink(text, name, file)
+    }
+}
+
 #[tactic(auto, unfolding(crate::specs::SinkNotes::unused_meter))]
 fn put_unused_meter(text: &mut Text, name: &[u8]) -> Result<(), Memory>
     ensures { OnOk result (text.new ≡ text.old ++ unused_meter name.now) }
@@ -76,42 +63,45 @@ fn put_unused_meter(text: &mut Text, name: &[u8]) -> Result<(), Memory>
     put_behind(text, name, b" had no format at the end, so it has no peak")
 }
 
-#[tactic(auto, unfolding(crate::specs::SinkNotes::overwritten))]
-fn put_overwritten(text: &mut Text, file: &[u8]) -> Result<(), Memory>
-    ensures { OnOk result (text.new ≡ text.old ++ overwritten file.now) }
-{
-    put_behind(
-        text,
-        file,
-        b" is written by a later sink too, whose frames stand",
-    )
-}
-
-// The note on the line of a sink, with the lines after it.
-fn put_sink_note(
+// The notes on the line of a sink with a format, with the lines after it.
+fn put_used_notes(
     text: &mut Text,
     words: &[String],
     told: &[u8],
+    script: &[u8],
     number: u32,
     line: &[u8],
     later: Option<&[u8]>,
 ) -> Result<(), Memory>
     ensures { OnOk result (text.new ≡ text.old
-        ++ sink_note (map string_bytes words.now) told.now number (words_of line.now)
+        ++ used_notes (map string_bytes words.now) told.now script.now number (words_of line.now)
         (option_map_or (λ lines. lines_of lines.now) later.entry [])) }
 {
-    let (name, file) = (word_of(line, 1), word_of(line, 2));
-    if is_unused(told, name) {
+    put_later_note(text, words, told, number, word_of(line, 2), later)?;
+    put_source_note(text, words, script, number, word_of(line, 2))?;
+    put_empty_note(text, words, told, script, number, line)
+}
+
+// The notes on the line of a sink, with the lines after it.
+fn put_sink_note(
+    text: &mut Text,
+    words: &[String],
+    told: &[u8],
+    script: &[u8],
+    number: u32,
+    line: &[u8],
+    later: Option<&[u8]>,
+) -> Result<(), Memory>
+    ensures { OnOk result (text.new ≡ text.old
+        ++ sink_note (map string_bytes words.now) told.now script.now number (words_of line.now)
+        (option_map_or (λ lines. lines_of lines.now) later.entry [])) }
+{
+    if is_unused(told, word_of(line, 1)) {
         put_note_head(text, words, number)?;
-        put_unused_sink(text, name, file)?;
+        put_unused_said(text, told, script, line)?;
         return text.extend(b"\n");
     }
-    if is_written(told, file, later) {
-        put_note_head(text, words, number)?;
-        put_overwritten(text, file)?;
-        return text.extend(b"\n");
-    }
-    Ok(())
+    put_used_notes(text, words, told, script, number, line, later)
 }
 
 // The note on the line of a meter.
@@ -119,45 +109,50 @@ fn put_meter_note(
     text: &mut Text,
     words: &[String],
     told: &[u8],
+    script: &[u8],
     number: u32,
     line: &[u8],
 ) -> Result<(), Memory>
     ensures { OnOk result (text.new ≡ text.old
-        ++ meter_note (map string_bytes words.now) told.now number (words_of line.now)) }
+        ++ meter_note (map string_bytes words.now) told.now script.now number
+        (words_of line.now)) }
 {
     let name = word_of(line, 1);
     if !is_unused(told, name) {
-        return Ok(());
+        return put_still_note(text, words, told, script, number, name);
     }
     put_note_head(text, words, number)?;
     put_unused_meter(text, name)?;
     text.extend(b"\n")
 }
 
-// The note on a line, with the lines after it.
+// The notes on a line, with the lines after it.
 fn put_sink_part(
     text: &mut Text,
     words: &[String],
     told: &[u8],
+    script: &[u8],
     number: u32,
     line: &[u8],
     later: Option<&[u8]>,
 ) -> Result<(), Memory>
     ensures { OnOk result (text.new ≡ text.old
-        ++ sink_part (map string_bytes words.now) told.now number line.now
+        ++ sink_part (map string_bytes words.now) told.now script.now number line.now
         (option_map_or (λ lines. lines_of lines.now) later.entry [])) }
 {
     if is_sink(line) {
-        put_sink_note(text, words, told, number, line, later)
+        put_sink_note(text, words, told, script, number, line, later)
     } else if is_meter(line) {
-        put_meter_note(text, words, told, number, line)
+        put_meter_note(text, words, told, script, number, line)
     } else {
         Ok(())
     }
 }
 
-/// Which sinks and meters of a script had no format at the end, and which sinks wrote what a later
-/// one overwrote, a note for each, by the text of its run.
+/// Which sinks and meters of a script had no format at the end or got no frames, which sinks wrote
+/// what a later one overwrote, and which wrote a source's file: a note for each, by the text of the
+/// run. Cost: for each sink and meter one look at each byte of the script and of the text, and
+/// for each other sink of the same file another at the text.
 pub fn put_sink_notes(
     text: &mut Text,
     words: &[String],
@@ -165,13 +160,13 @@ pub fn put_sink_notes(
     told: &[u8],
 ) -> Result<(), Memory>
     ensures { OnOk result (text.new ≡ text.old
-        ++ sink_notes (map string_bytes words.now) told.now 1 (lines_of script.now)) }
+        ++ sink_notes (map string_bytes words.now) told.now script.now 1 (lines_of script.now)) }
 {
     let mut rest = script;
     let mut number: u32 = 1;
     loop {
         let (line, after) = next_piece(rest, b'\n');
-        put_sink_part(text, words, told, number, line, after)?;
+        put_sink_part(text, words, told, script, number, line, after)?;
         match after {
             None => return Ok(()),
             Some(more) => rest = more,

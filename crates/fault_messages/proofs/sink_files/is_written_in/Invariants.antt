@@ -1,8 +1,8 @@
 use Rattle.std.proofs.Common.{◌≡◌, length}
 use Rattle.std.specs.List.{list_any}
 use Rattle.graph_script.specs.Lexical.{lines_of}
-use Rattle.fault_messages.specs.SinkNotes.{writes}
-use Rattle.fault_messages.proofs.sink_notes.is_written_in.Given as goal
+use Rattle.fault_messages.specs.SinkFiles.{writes}
+use Rattle.fault_messages.proofs.sink_files.is_written_in.Given as goal
 
 -- no line before is such a sink's
 abbrev pub invariant-loop-after : goal.invariant-loop-after
