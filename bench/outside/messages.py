@@ -59,6 +59,7 @@ def sentences(place):
     for words, sentence in [
             (["run"], 'a word is missing after "run"'),
             (["play"], '"play" is no command'),
+            (["pipegraph", "run", "a"], '"pipegraph" is no command, but the name of this program'),
             (["runn", "a"], '"runn" is no command; did you mean "run"?'),
             (["take.graph"], '"take.graph" is no command; did you mean: pipegraph run take.graph?'),
             (["my take.graph"], '"my take.graph" is no command'),

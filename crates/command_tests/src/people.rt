@@ -596,6 +596,12 @@ const USAGES: &'static [Asked] = &[
         ..USAGE
     },
     Asked {
+        line: "pipegraph run s.graph",
+        out: b"usage 0\n",
+        said: b"\"pipegraph\" is no command, but the name of this program",
+        ..USAGE
+    },
+    Asked {
         line: "play s.graph",
         out: b"usage 0\n",
         said: b"\"play\" is no command",

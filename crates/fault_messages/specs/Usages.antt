@@ -7,9 +7,11 @@ use Rattle.fault_messages.specs.Places.{begins, word, quoted}
 -- the first word, which is no command
 unfoldable pub other_main : List ℕ → List ℕ
 other_main w =
-    if is_script_path w then quoted w ++ (codes " is no command; did you mean: pipegraph run "
+    if bytes_eq w (codes "pipegraph")
+    then quoted w ++ codes " is no command, but the name of this program"
+    else (if is_script_path w then quoted w ++ (codes " is no command; did you mean: pipegraph run "
     ++ (escaped w ++ codes "?"))
-    else quoted w ++ codes " is no command"
+    else quoted w ++ codes " is no command")
 
 abbrev pub main_text : List ℕ → Option (List ℕ) → List ℕ
 main_text w None = other_main w

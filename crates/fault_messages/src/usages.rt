@@ -16,7 +16,9 @@ use pw_lists::{Memory, Text};
 fn put_other_main(text: &mut Text, word: &[u8]) -> Result<(), Memory>
     ensures { OnOk result (text.new ≡ text.old ++ other_main word.now) }
 {
-    if is_script_path(word) {
+    if word == b"pipegraph".as_slice() {
+        put_behind(text, word, b" is no command, but the name of this program")
+    } else if is_script_path(word) {
         put_quoted_shown(
             text,
             word,
