@@ -137,10 +137,11 @@ def refused(place, words, status, line, sentence, of=MAIN):
                (answer.status, answer.out, answer.errors.decode(errors="replace")))
 
 
-def of_scripts(place, name, status, line, sentence):
-    """A refusal by the three commands that plan a script."""
+def of_scripts(place, name, status, line, sentence, whole=""):
+    """A refusal by the three commands that plan a script; what those that plan it whole add."""
     for words in planned(name):
-        refused(place, words, status, line, f"{name}:{sentence}")
+        more = "" if words[0] == "groups" else whole
+        refused(place, words, status, line, f"{name}:{sentence}{more}")
 
 
 def scripts_at_fault(place):
@@ -311,7 +312,9 @@ def limits(place):
     of_pictures(place, numbers)
     for name, script, at, sentence in limits_of_scripts():
         place.file("much.graph", script)
-        of_scripts(place, "much.graph", 8, f"limit {at} {numbers.get(name)}", f"{at}: {sentence}")
+        fits = "; up to 599186 cycles in all fit here, whatever is linked"
+        of_scripts(place, "much.graph", 8, f"limit {at} {numbers.get(name)}", f"{at}: {sentence}",
+                   fits if name == "Events" else "")
     halves = [thing((key, pod(9, bytes(600000)))) for key in (1, 2)]
     place.file("one.pod", halves[0])
     place.file("two.pod", halves[1])

@@ -566,7 +566,8 @@ const LIMITS: &'static [Said] = &[
             which: Which::Events,
         },
         b"more than 4194304 events; three are counted for each cycle, and two for each active \
-            node in it, the driver among them",
+            node in it, the driver among them; up to 838860 cycles in all fit here, \
+            whatever is linked",
     ),
     (
         OF_SCRIPT,

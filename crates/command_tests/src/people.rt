@@ -250,6 +250,49 @@ const ARGUMENTS: &'static [Asked] = &[
     },
 ];
 
+/// Lines that pass the limit of events. A cycle has five with the built-in driver, and two more for
+/// each node: 4194304 are 838860 times 5 and four, 599186 times 7 and two, 381300 times 11 and four.
+const LIMITS: &'static [Asked] = &[
+    Asked {
+        script: b"cycles 838861\n",
+        code: 8,
+        out: b"limit 1 8\n",
+        said: b"s.graph:1: more than 4194304 events; three are counted for each cycle, and two for \
+            each active node in it, the driver among them; up to 838860 cycles in all fit here, \
+            whatever is linked",
+        ..RUN
+    },
+    Asked {
+        line: "check s.graph t.txt",
+        script: b"# gain g 1\nmeter m\ncycles 838861\ngain g 1\n",
+        code: 8,
+        out: b"limit 3 8\n",
+        said: b"s.graph:3: more than 4194304 events; three are counted for each cycle, and two for \
+            each active node in it, the driver among them; up to 599186 cycles in all fit here, \
+            whatever is linked",
+        ..RUN
+    },
+    Asked {
+        script: b"square q 48000 1 2 5\nmeter m\nlink q.out m.in\ncycles 400000\ngain g 1\n\
+            cycles 400000\n",
+        code: 8,
+        out: b"limit 6 8\n",
+        said: b"s.graph:6: more than 4194304 events; three are counted for each cycle, and two for \
+            each active node in it, the driver among them; up to 381300 cycles in all fit here, \
+            whatever is linked",
+        ..RUN
+    },
+    Asked {
+        line: "groups s.graph",
+        script: b"gain g 256\ncycles 838861\n",
+        code: 8,
+        out: b"limit 2 8\n",
+        said: b"s.graph:2: more than 4194304 events; three are counted for each cycle, and two for \
+            each active node in it, the driver among them",
+        ..RUN
+    },
+];
+
 /// Ends and ports.
 const PORTS: &'static [Asked] = &[
     Asked {
@@ -553,6 +596,7 @@ fn wrong_lines_of_scripts_have_their_sentences(rt: HostRuntime) {
     assert_eq!(rt; first_unlike(&rt, COMMANDS, b""), None);
     assert_eq!(rt; first_unlike(&rt, ARGUMENTS, b""), None);
     assert_eq!(rt; first_unlike(&rt, PORTS, b""), None);
+    assert_eq!(rt; first_unlike(&rt, LIMITS, b""), None);
 }
 
 #[test]

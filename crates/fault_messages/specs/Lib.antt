@@ -1,5 +1,6 @@
 pub mod ByteFaults
 pub mod CommandForms
+pub mod CycleRoom
 pub mod EmptySinks
 pub mod Escaping
 pub mod Explaining

@@ -2,6 +2,7 @@
 use Rattle.std.specs.Prelude.{ℕ, ◌==◌, ◌||◌, Bool, false, bytes_eq, if◌then◌else◌, List, [], ◌++◌, codes, decimal, Option, Some, None}
 use Rattle.pw_top.specs.declared.status.Status.{Status}
 use Rattle.pw_top.specs.declared.status.Status.TheVariants as S
+use Rattle.fault_messages.specs.CycleRoom.{room_part}
 use Rattle.fault_messages.specs.Places.{Words, word, place_text, file_part, lines_before}
 use Rattle.fault_messages.specs.ScriptMessages.{script_said}
 use Rattle.fault_messages.specs.PodMessages.{pod_said}
@@ -36,7 +37,8 @@ sentence (S.ReadFault place) words line script =
 sentence (S.WriteFault place) words line script =
     if place == 0 then codes "standard output cannot be written"
     else at_place words place (file_part line ++ write_said)
-sentence (S.Limit place which) words line script = at_place words place (limit_text which line)
+sentence (S.Limit place which) words line script = at_place words place
+    (limit_text which line ++ room_part words which line (lines_before script place))
 sentence S.Memory words line script = codes "no memory was left"
 
 -- where the words ask for help, or there are none: what the commands do

@@ -6,6 +6,7 @@
 
 mod byte_faults;
 mod command_forms;
+mod cycle_room;
 mod empty_sinks;
 mod escaping;
 mod explaining;

@@ -4,6 +4,7 @@ ghost use Rattle.fault_messages.specs.Places.{place_text, file_part};
 ghost use Rattle.fault_messages.specs.Message.{is_help_word, asks_help};
 ghost use Rattle.fault_messages.specs.Message.{synopsis, at_place, sentence, before, after, message_of, words_message};
 
+use crate::cycle_room::put_room;
 use crate::file_messages::{absent_said, put_limit, read_said, wav_said, write_said};
 use crate::help::help;
 use crate::places::{put_file, put_place, word_at};
@@ -84,7 +85,8 @@ fn put_sentence(
         Status::WriteFault { place } => put_file_fault(text, words, place, line, write_said()),
         Status::Limit { place, which } => {
             put_colon(text, words, place)?;
-            put_limit(text, which, line)
+            put_limit(text, which, line)?;
+            put_room(text, words, which, line, script, place)
         }
         Status::Memory => text.extend(b"no memory was left"),
     }
