@@ -29,6 +29,7 @@ use Rattle.steal_loops.specs.declared.shared.Shared.{Shared}
 use Rattle.steal_loops.specs.declared.claimant.Claimant.{Claimant}
 use Rattle.steal_loops.specs.working.Cells.{IsCellFor, AreCells}
 use Rattle.steal_loops.specs.working.Crews.{IsOpened, CanDrive, HasNode}
+use Rattle.steal_loops.specs.working.NodeSets.{AreCelled}
 use Rattle.steal_loops.specs.working.Claimants.{IsClaimant, IsWorker, IsDriverClaimant, IsWorkersWay}
 use Rattle.steal_loops.proofs.OneNodeLemmas.{one_node}
 
@@ -142,12 +143,14 @@ module _ (plan : Plan) (waves : List WavIn) (o : Opened) (opened : IsOpened plan
         waves_are = is.waves_are ∙ sym waves_are;
       }
 
-  pub are_cells : cells_of shared.shelf ≡ o.cells → shared.seating ≡ o.seating → cell_count plan ≤ nodes_limit → AreCells shared
-  are_cells is seating few = let loops = ap (λ (s : Seating). s.loops) (seating ∙ opened.seating) in record {
+  pub are_cells : cells_of shared.shelf ≡ o.cells → shared.seating ≡ o.seating → cell_count plan ≤ nodes_limit
+      → AreCelled shared.seating shared.signs.celled → AreCells shared
+  are_cells is seating few celled = let loops = ap (λ (s : Seating). s.loops) (seating ∙ opened.seating) in record {
     each = λ i c at. let here : slice_get o.cells i ≡ Some c = subst (λ (l : List LoopState). slice_get l i ≡ Some c) is at in
         subst (IsCellFor shared) (get_or_from_slice_get o.cells i c c here) (cell_for i c (slice_get_within o.cells i c here));
     count = ap (λ (l : List LoopState). length l) is ∙ (many plan waves o opened ∙ sym loops);
     few = omega (arith, loops, few);
+    celled = celled;
   }
 
   pub drives : (claimant : Claimant) → IsDriverClaimant shared claimant → CanDrive shared (record { own = o.own; drivers = o.drivers; claimant = claimant })

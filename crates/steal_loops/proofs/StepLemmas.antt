@@ -1,6 +1,6 @@
 -- A cell after one step of it.
 use Rattle.std.proofs.Common.{◌≡◌, ℕ, ◌+◌, List, length, sym, ap, ◌∙◌, subst, arith, inl, inr}
-use Rattle.std.proofs.Common.{slice_get}
+use Rattle.std.proofs.Common.{slice_get, Some}
 use Rattle.board_rule.specs.declared.board.Board.{Board}
 use Rattle.board_rule.specs.OnBoard.{layout, table_of}
 use Rattle.node_progress.specs.declared.run_model.RunModel.{RunModel}
@@ -10,6 +10,16 @@ use Rattle.data_loop.specs.Loops.{IsBetweenEpochs}
 use Rattle.data_loop.specs.LoopsOnBoards.{IsOnBoard, IsSameBut, IsNextOf, IsFirstSeat}
 use Rattle.data_loop.specs.LoopWay.{IsAmid}
 use Rattle.steal_shelf.specs.working.CellSteps.{HasStepped}
+use Rattle.steal_loops.specs.declared.cell_steps.Step.{Step}
+use Rattle.steal_loops.specs.declared.cell_steps.Step.TheVariants.{Ran, Early, Passed}
+use Rattle.steal_loops.specs.working.Steps.{HasTurnedSo, HasMade}
+
+-- a turn on the board of the epoch is a step
+pub made_step : (boards : List Board) (b : Board) (s u : LoopState) (did : Step) → slice_get boards s.epoch ≡ Some b
+    → HasTurnedSo (layout b) did s u → HasMade boards did s u
+made_step boards b s u Ran here is = (b, here, is)
+made_step boards b s u Early here is = (b, here, is)
+made_step boards b s u Passed here is = absurd is
 
 module _ (boards : List Board) (s u : LoopState) (a : IsAmid boards s) (same : IsSameBut s u) where
   amid_on : IsOnBoard (layout a.board) (table_of a.board) u → IsAmid boards u

@@ -5,4 +5,5 @@ pub mod Claimants
 pub mod CrewRun
 pub mod Crews
 pub mod NodeSets
+pub mod Steps
 pub mod Visits

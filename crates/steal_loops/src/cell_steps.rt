@@ -1,11 +1,12 @@
 //! One step of a cell on its way through the boards of a run.
-ghost use Rattle.std.specs.Prelude.{◌<◌, length, IfNone};
+ghost use Rattle.std.specs.Prelude.{◌<◌, length, IfSome, IfNone};
 ghost use Rattle.board_rule.specs.OnBoard.{layout, table_of};
 ghost use Rattle.data_loop.specs.Loops.{plan_of};
 ghost use Rattle.data_loop.specs.LoopsOnBoards.{IsOnBoard};
 ghost use Rattle.data_loop.specs.LoopWay.{HasNoDriver, IsUnderWay};
 ghost use Rattle.data_loop.specs.Settling.{HasHadTurns, HasSettled};
 ghost use Rattle.steal_shelf.specs.working.CellSteps.{HasStepped};
+ghost use Rattle.steal_loops.specs.working.Steps.{HasMade, HasTurnedSo};
 
 use board_rule::Board;
 use data_loop::{Did, LoopState};
@@ -23,27 +24,23 @@ pub(crate) enum Step {
     Passed,
 }
 
-// One turn of a cell: whether its node ran, or None where it has no cycles left in its epoch.
-fn turn_cell<G: Gate>(board: &Board, state: &mut LoopState, gate: &G) -> Option<bool>
+// One turn of a cell: what it did, or None where it has no cycles left in its epoch.
+fn turn_cell<G: Gate>(board: &Board, state: &mut LoopState, gate: &G) -> Option<Step>
     requires stands { IsOnBoard (layout board.now) (table_of board.now) state.old }
     ensures turned { HasHadTurns (layout board.now) (table_of board.now) state.old state.new }
+    ensures made { IfSome result (λ did. HasTurnedSo (layout board.now) did state.old state.new) }
     ensures settled { IfNone result
         (HasSettled (layout board.now) (table_of board.now) state.old state.new) }
 {
     match state.turn(board, gate) {
-        Did::Ran { .. } => Some(true),
+        Did::Ran { .. } => Some(Step::Ran),
         Did::Idle => {
             if state.found().len() == 0 {
                 return None;
             }
-            Some(false)
+            Some(Step::Early)
         }
     }
-}
-
-// The step that was a turn.
-fn turned(ran: bool) -> Step {
-    if ran { Step::Ran } else { Step::Early }
 }
 
 /// One turn of a cell on the board of its epoch, or the way into the next epoch where it has no
@@ -55,10 +52,11 @@ pub(crate) fn step_cell<G: Gate>(boards: &Items<Board>, state: &mut LoopState, g
     requires left { state.old.epoch < length (plan_of state.old).epochs }
     requires none { HasNoDriver state.old }
     ensures stepped { HasStepped boards.now state.old state.new }
+    ensures made { HasMade boards.now result state.old state.new }
 {
     let board = &boards.as_slice()[state.epoch() as usize];
     match turn_cell(board, state, gate) {
-        Some(ran) => turned(ran),
+        Some(did) => did,
         None => {
             state.next_epoch();
             Step::Passed

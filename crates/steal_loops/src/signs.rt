@@ -4,8 +4,9 @@
 //! leaves that of the thread that runs it. So threads look for signs first: bit n of one word is
 //! 1 once node n was woken, until a thread takes it up. A sign is only a hint: contracts see
 //! nothing of it, and a thread that finds no sign for a while visits all cells.
-ghost use Rattle.std.specs.Prelude.{◌<◌, IfSome, Some};
-ghost use Rattle.steal_loops.specs.working.NodeSets.{IsBut};
+ghost use Rattle.std.specs.Prelude.{◌≡◌, ◌≢◌, ◌<◌, ℕ, cond, IfSome, IfNone};
+ghost use Rattle.std.specs.Int.{bit_at};
+ghost use Rattle.steal_loops.specs.working.NodeSets.{AreCelled, IsKept};
 
 use crossbeam_utils::CachePadded;
 use graph_run::Seating;
@@ -24,20 +25,32 @@ fn bit_of(node: u32) -> u64 {
     1 << (node % 64)
 }
 
+// The set with one node more, or the same.
+fn noted(set: u64, node: u32, more: bool) -> u64
+    requires below { node < 64 }
+    requires new { bit_at set node ≡ 0 }
+    ensures here { bit_at result node ≡ cond more 1 0 }
+    ensures others { (n : ℕ) → n ≢ node → bit_at result n ≡ bit_at set n }
+{
+    if more { set | 1 << node } else { set }
+}
+
 // The nodes that have a cell.
-fn celled_nodes(seating: &Seating) -> u64 {
+fn celled_nodes(seating: &Seating) -> u64
+    ensures { AreCelled seating.now result }
+{
     let mut celled = 0;
     for node in 0..64 {
-        if seating.holder(node) < seating.loops() {
-            celled |= bit_of(node);
-        }
+        let has_cell = seating.holder(node) < seating.loops();
+        celled = noted(celled, node, has_cell);
     }
     celled
 }
 
 // The least node of a set, if there is one.
 fn least_of(set: u64) -> Option<u32>
-    ensures { IfSome result (λ node. node < 64) }
+    ensures some { IfSome result (λ node. (node < 64) × (bit_at set node ≡ 1)) }
+    ensures none { IfNone result ((n : ℕ) → n < 64 → bit_at set n ≡ 0) }
 {
     let node = set.trailing_zeros();
     if node < 64 { Some(node) } else { None }
@@ -46,14 +59,17 @@ fn least_of(set: u64) -> Option<u32>
 // The set without one node.
 fn without(set: u64, node: u32) -> u64
     requires { node < 64 }
-    ensures { IsBut (Some node) set result }
+    ensures here { bit_at result node ≡ 0 }
+    ensures others { (n : ℕ) → n < 64 → n ≢ node → bit_at result n ≡ bit_at set n }
 {
     set & !(1 << node)
 }
 
 impl Signs {
     /// No node has a sign.
-    pub(crate) fn new(seating: &Seating) -> Signs {
+    pub(crate) fn new(seating: &Seating) -> Signs
+        ensures { AreCelled seating.now result.celled }
+    {
         Signs {
             word: CachePadded::new(AtomicU64::new(0)),
             celled: celled_nodes(seating),
@@ -71,7 +87,7 @@ impl Signs {
 
     /// The first node of a set that has a cell, if there is one, and the set without it.
     pub(crate) fn split(&self, woke: u64) -> (Option<u32>, u64)
-        ensures { IsBut result.0 woke result.1 }
+        ensures { IsKept self.now.celled result.0 woke result.1 }
     {
         match least_of(woke & self.celled) {
             Some(node) => (Some(node), without(woke, node)),

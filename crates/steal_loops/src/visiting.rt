@@ -4,6 +4,7 @@ ghost use Rattle.data_loop.specs.Loops.{plan_of};
 ghost use Rattle.steal_shelf.specs.working.CellSteps.{HasStepped};
 ghost use Rattle.steal_shelf.specs.Seats.{cells_of, IsAllowed};
 ghost use Rattle.steal_loops.specs.working.Cells.{AreCells};
+ghost use Rattle.steal_loops.specs.working.Steps.{HasMade};
 ghost use Rattle.steal_loops.specs.working.Claimants.{IsClaimant};
 ghost use Rattle.steal_loops.specs.working.Visits.{HasVisited};
 
@@ -66,6 +67,7 @@ fn advance<G: Gate>(shared: &Shared, cell: u32, state: &mut LoopState, gate: &G)
     requires left { state.old.epoch < length (plan_of state.old).epochs }
     ensures allowed { IsAllowed shared.now.shelf cell state.new }
     ensures stepped { HasStepped shared.now.boards state.old state.new }
+    ensures made { HasMade shared.now.boards result state.old state.new }
 {
     let _ = cell;
     step_cell(&shared.boards, state, gate)
@@ -83,6 +85,7 @@ pub(crate) fn advance_unless_ended<G: Gate>(
     requires allowed { IsAllowed shared.now.shelf cell state.old }
     ensures allowed { IsAllowed shared.now.shelf cell state.new }
     ensures stepped { IfSome result (λ _. HasStepped shared.now.boards state.old state.new) }
+    ensures made { IfSome result (λ did. HasMade shared.now.boards did state.old state.new) }
     ensures ended { IfNone result (state.new ≡ state.old) }
     ensures end { IfNone result (state.new.epoch ≡ length (plan_of state.new).epochs) }
 {

@@ -9,6 +9,7 @@ use Rattle.data_loop.specs.LoopKept.{IsDone}
 use Rattle.data_loop.specs.LoopWay.{HasBoards, HasNoDriver, IsSameLoop}
 use Rattle.steal_shelf.specs.Seats.{cells_of}
 use Rattle.steal_loops.specs.declared.shared.Shared.{Shared}
+use Rattle.steal_loops.specs.working.NodeSets.{AreCelled}
 
 module _ (shared : Shared) where
   -- A CELL of the run's plan, as it was given: it has seats of all boards, and no driver
@@ -25,6 +26,7 @@ module _ (shared : Shared) where
         → IsCellFor c
     pub count : length (cells_of shared.shelf) ≡ shared.seating.loops
     pub few : shared.seating.loops ≤ nodes_limit
+    pub celled : AreCelled shared.seating shared.signs.celled
 
   -- AT ITS END: the cell i, after all epochs
   pub record IsFinished (i : ℕ) (s : LoopState) : Type 0 where

@@ -7,23 +7,26 @@ use Rattle.driver_cycle.specs.Waking.{HasSent}
 use Rattle.steal_shelf.specs.working.CellSteps.{HasStepped}
 use Rattle.steal_shelf.specs.Fetching.{HasFoundOut}
 use Rattle.steal_shelf.specs.Seats.{IsAllowed, LacksCell}
+use Rattle.steal_loops.specs.declared.cell_steps.Step.{Step}
 use Rattle.steal_loops.specs.declared.shared.Shared.{Shared}
 use Rattle.steal_loops.specs.declared.claimant.Claimant.{Claimant}
 use Rattle.steal_loops.specs.declared.visiting.Visited.{Visited}
 use Rattle.steal_loops.specs.declared.visiting.Visited.TheVariants.{Out, Ended, Stepped}
 use Rattle.steal_loops.specs.working.Cells.{HasFinished}
-use Rattle.steal_loops.specs.working.NodeSets.{IsBut}
+use Rattle.steal_loops.specs.working.NodeSets.{IsKept}
+use Rattle.steal_loops.specs.working.Steps.{HasMade}
 
 -- A STEP: the cell was found so, made one step, was put back, and what it woke was sent, but for
--- the node that the thread keeps
-pub record HasMadeStep (shared : Shared) (i : ℕ) (a b : Claimant) : Type 0 where
+-- the node that the thread keeps, which was woken and has a cell
+pub record HasMadeStep (shared : Shared) (i : ℕ) (did : Step) (a b : Claimant) : Type 0 where
   pub found : LoopState
   pub back : LoopState
   pub allowed : IsAllowed shared.shelf i found
   pub stepped : HasStepped shared.boards found back
   pub lacks : LacksCell b.seat i
+  pub made : HasMade shared.boards did found back
   pub others : ℕ
-  pub but : IsBut b.kept back.woke others
+  pub kept : IsKept shared.signs.celled b.kept back.woke others
   pub sent : HasSent shared.ways others a.way b.way
 
 -- THE VISIT of the cell i, by what became of it: another has it; it was at its end and was put
@@ -31,4 +34,4 @@ pub record HasMadeStep (shared : Shared) (i : ℕ) (a b : Claimant) : Type 0 whe
 abbrev pub HasVisited : Shared → ℕ → Visited → Claimant → Claimant → Type 0
 HasVisited shared i Out a b = HasFoundOut i a.seat b.seat × (b.way ≡ a.way)
 HasVisited shared i Ended a b = HasFinished shared i × LacksCell b.seat i × (b.way ≡ a.way)
-HasVisited shared i (Stepped did) a b = HasMadeStep shared i a b
+HasVisited shared i (Stepped did) a b = HasMadeStep shared i did a b

@@ -27,7 +27,7 @@ claimants_of-requires c = let plan = c.args.plan.now in let waves = c.args.waves
     let few = cells_seat plan (few_nodes plan c.requires.sound) in let seat : ShelfSeat = c.unwrap-seat.result in let left : List ShelfSeat = c.pop.new.self in
     let whole : c.in_ok-shelf.seats ≡ left ++ seat ∷ [] = c.pop.ensures.list ∙ ap (λ (x : Option ShelfSeat). left ++ option_to_list x) c.unwrap-seat.ensures in
     let long = ap (λ (l : List ShelfSeat). length l) whole in let parts = length-append left (seat ∷ []) in let many = made.count in let ways = w.count in record {
-      cells = are_cells plan waves o opened shared refl c.of.ensures.plan c.of.ensures.waves made.cells refl few.few;
+      cells = are_cells plan waves o opened shared refl c.of.ensures.plan c.of.ensures.waves made.cells refl few.few c.new-signs.ensures;
       seats = front (IsSeatOf c.in_ok-shelf.shelf) left (seat ∷ []) (subst (All (IsSeatOf c.in_ok-shelf.shelf)) whole made.seats);
       ways = workers_ways c.in_ok-ways.ways c.args.loops c.in_ok-ways.others w.loops w.count w.ways;
       count = omega (arith, long, parts, many, ways);
@@ -39,7 +39,7 @@ returns c = let plan = c.args.plan.now in let waves = c.args.waves.now in let o 
     let shared : Shared = record { boards = o.boards; ways = c.in_ok-ways.ways; signs = c.new-signs.result; shelf = c.in_ok-shelf.shelf; seating = o.seating; run_model = c.of.result } in
     let seating = cells_seat plan (few_nodes plan c.requires.sound) in let seat : ShelfSeat = c.unwrap-seat.result in let left : List ShelfSeat = c.pop.new.self in
     let whole : c.in_ok-shelf.seats ≡ left ++ seat ∷ [] = c.pop.ensures.list ∙ ap (λ (x : Option ShelfSeat). left ++ option_to_list x) c.unwrap-seat.ensures in
-    let cells : AreCells shared = are_cells plan waves o opened shared refl p v made.cells refl seating.few in
+    let cells : AreCells shared = are_cells plan waves o opened shared refl p v made.cells refl seating.few c.new-signs.ensures in
     let claimant : Claimant = c.in_ok-claimant.claimant in let t = c.in_ok-claimant.ensures in let way = sym t.way in
     let is = new_claimant shared cells claimant
     (subst (IsSeatOf shared.shelf) (sym t.seat) (back (IsSeatOf shared.shelf) left seat (subst (All (IsSeatOf shared.shelf)) whole made.seats)))

@@ -1,6 +1,9 @@
-use Rattle.std.proofs.Common.{arith, w64}
-use Rattle.std.proofs.lemmas.Nat.Bits.{bit_at_clear_other}
+use Rattle.std.proofs.Common.{w64}
+use Rattle.std.proofs.lemmas.Nat.Bits.{bit_at_clear_same, bit_at_clear_other}
 use Rattle.steal_loops.proofs.signs.without.Goals as goal
 
-pub returns : goal.returns
-returns c = λ n most other. bit_at_clear_other w64 c.args.set c.args.node c.requires n (omega (arith, most)) other
+pub returns-clause-here : goal.returns-clause-here
+returns-clause-here c = bit_at_clear_same w64 c.args.set c.args.node c.requires
+
+pub returns-clause-others : goal.returns-clause-others
+returns-clause-others c = bit_at_clear_other w64 c.args.set c.args.node c.requires

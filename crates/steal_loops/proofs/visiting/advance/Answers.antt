@@ -13,4 +13,5 @@ pub returns : goal.returns
 returns g c = let h = c.requires.allowed in let f = c.requires.cells.each c.args.cell h.0 h.1 in let step = c.step_cell.ensures.stepped in record {
   allowed = (h.0, h.1, stepped_cell c.args.shared.now.boards h.0 c.args.state.now c.step_cell.new.state f.boards_are h.2 step);
   stepped = step;
+  made = c.step_cell.ensures.made;
 }

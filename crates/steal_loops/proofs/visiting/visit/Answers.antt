@@ -1,5 +1,5 @@
 use Rattle.std.proofs.Common.{ℕ, refl, subst}
-use Rattle.steal_loops.specs.working.NodeSets.{IsBut}
+use Rattle.steal_loops.specs.working.NodeSets.{IsKept}
 use Rattle.steal_loops.proofs.ClaimantLemmas.{flagged, at_end}
 use Rattle.steal_loops.proofs.visiting.visit.Goals as goal
 
@@ -10,8 +10,9 @@ returns-in-Some-stepped-clause-visited g c = record {
   allowed = c.in-Some.ensures.some.1;
   stepped = c.in-Some-stepped.ensures.stepped;
   lacks = c.put_back.ensures.back.lacks;
+  made = c.in-Some-stepped.ensures.made;
   others = c.split-kept.result.1;
-  but = subst (λ (n : ℕ). IsBut c.split-kept.result.0 n c.split-kept.result.1) c.woke-woke.ensures c.split-kept.ensures;
+  kept = subst (λ (n : ℕ). IsKept c.args.shared.now.signs.celled c.split-kept.result.0 n c.split-kept.result.1) c.woke-woke.ensures c.split-kept.ensures;
   sent = (c.forward.result, c.forward.ensures.sent);
 }
 
