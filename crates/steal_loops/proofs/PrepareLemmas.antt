@@ -23,14 +23,14 @@ use Rattle.graph_run.specs.LoopsOnPlan.{IsReady, AreReady, AreFirstLeads}
 use Rattle.graph_run.specs.Seating.{IsSeating, nodes_of_loop}
 use Rattle.graph_run.proofs.ReadyLemmas.{short, own_is, own_ready, own_has, others_ready, others_none, is_in}
 use Rattle.steal_shelf.specs.NewShelf.{IsFirstCell, AreOfOneRun}
-use Rattle.steal_shelf.specs.Seats.{cells_of, IsSeatOf}
+use Rattle.steal_shelf.specs.Seats.{cells_of}
 use Rattle.steal_loops.specs.declared.opening.Opened.{Opened}
 use Rattle.steal_loops.specs.declared.shared.Shared.{Shared}
 use Rattle.steal_loops.specs.declared.claimant.Claimant.{Claimant}
 use Rattle.steal_loops.specs.working.Cells.{IsCellFor, AreCells}
 use Rattle.steal_loops.specs.working.Crews.{IsOpened, CanDrive, HasNode}
 use Rattle.steal_loops.specs.working.NodeSets.{AreCelled}
-use Rattle.steal_loops.specs.working.Claimants.{IsClaimant, IsWorker, IsDriverClaimant, IsWorkersWay}
+use Rattle.steal_loops.specs.working.Claimants.{IsUnusedSeat, IsClaimant, IsWorker, IsDriverClaimant, IsWorkersWay}
 use Rattle.steal_loops.proofs.OneNodeLemmas.{one_node}
 
 -- all ways of the workers
@@ -110,18 +110,19 @@ module _ (plan : Plan) (waves : List WavIn) (o : Opened) (opened : IsOpened plan
       (cases_lt (f n) cells)
 
 -- what a thread takes cells with, in the beginning
-pub new_claimant : (shared : Shared) → AreCells shared → (t : Claimant) → IsSeatOf shared.shelf t.seat → IsWayOf shared.ways t.way
+pub new_claimant : (shared : Shared) → AreCells shared → (t : Claimant) → IsUnusedSeat shared.shelf t.seat → IsWayOf shared.ways t.way
     → t.ended.items ≡ replicate shared.seating.loops false → IsClaimant shared t
 new_claimant shared cells t seat answered none = let n = cells.count in let long = length-replicate shared.seating.loops false in
     let flags = ap (λ (l : List Bool). length l) none in record {
-      seat = seat;
+      seat = seat.0;
+      rests = seat.1.lacks;
       answered = answered;
       flags = omega (arith, n, long, flags);
       ended = λ i d low up. absurd (true≢false (sym up
           ∙ (ap (λ (l : List Bool). get_or l i d) none ∙ get_or-replicate shared.seating.loops i false d (omega (arith, low, n)))));
     }
 
-pub new_worker : (shared : Shared) → AreCells shared → (t : Claimant) → IsSeatOf shared.shelf t.seat → IsWorkersWay shared.ways t.way
+pub new_worker : (shared : Shared) → AreCells shared → (t : Claimant) → IsUnusedSeat shared.shelf t.seat → IsWorkersWay shared.ways t.way
     → t.ended.items ≡ replicate shared.seating.loops false → IsWorker shared t
 new_worker shared cells t seat way none = (new_claimant shared cells t seat way.0 none, way.1)
 

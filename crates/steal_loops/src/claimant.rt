@@ -1,5 +1,5 @@
 //! What one thread takes cells with.
-ghost use Rattle.std.specs.Prelude.{◌≡◌, All, IfOk, IsTrue, false, replicate, true};
+ghost use Rattle.std.specs.Prelude.{◌≡◌, ◌<◌, All, Bool, IfOk, IsTrue, false, length, replicate, slice_index_or, true};
 
 use data_loop::Way;
 use pw_lists::{Items, Memory};
@@ -44,6 +44,14 @@ impl Claimant {
             node,
             next: 0,
         })
+    }
+
+    /// Whether it has found this cell at its end. Condition: there is such a cell.
+    pub(crate) fn has_ended(&self, cell: u32) -> bool
+        requires { cell < length self.now.ended.items }
+        ensures { (d : Bool) → slice_index_or self.now.ended.items cell d ≡ result }
+    {
+        self.ended[cell as usize]
     }
 }
 

@@ -31,23 +31,22 @@ pub(crate) struct EndedCells {
     pub taken: u64,
 }
 
-impl Work<Claimant, u64> for Shared {
-    ghost use Rattle.std.specs.Prelude.{⊤};
-    ghost use Rattle.steal_loops.specs.working.CrewRun.{CanStart};
+impl Work<Claimant, Claimant> for Shared {
+    ghost use Rattle.steal_loops.specs.working.CrewRun.{CanStart, HasWorked};
 
     ghost number_of = { λ claimant. claimant.way.number };
 
     ghost can_start = { CanStart };
 
-    ghost has_run = { λ _ _. ⊤ };
+    ghost has_run = { HasWorked };
 
     fn number(member: &Claimant) -> u32 {
         member.way.number()
     }
 
-    // All that a worker does: how many numbers it took out of its queue.
-    fn work<R: Wait, G: Gate>(&self, rt: &R, gate: &G, member: Claimant) -> u64 {
-        run_worker(rt, gate, self, member).way.taken()
+    // All that a worker does. It gives back what it took cells with.
+    fn work<R: Wait, G: Gate>(&self, rt: &R, gate: &G, member: Claimant) -> Claimant {
+        run_worker(rt, gate, self, member)
     }
 }
 
@@ -58,20 +57,20 @@ fn count_absent(held: Items<Claimant>) -> usize {
 
 // How many numbers the workers took out of their queues in all. No clause says how many. Takes no
 // memory.
-fn sum_of(backs: Items<u64>) -> u64 {
+fn sum_of(backs: Items<Claimant>) -> u64 {
     let mut taken = 0u64;
-    for one in backs.into_vec() {
-        taken = taken.saturating_add(one);
+    for worker in backs.into_vec() {
+        taken = taken.saturating_add(worker.way.taken());
     }
     taken
 }
 
-impl Crew<Claimant, u64> for Shared {
-    ghost use Rattle.std.specs.Prelude.{◌≤◌, ⊤, ℕ, List, All, length};
+impl Crew<Claimant, Claimant> for Shared {
+    ghost use Rattle.std.specs.Prelude.{◌≤◌, ℕ, List, All, length};
     ghost use Rattle.crew_run.specs.Dealt.{AreDealt};
     ghost use Rattle.steal_loops.specs.declared.crew.LeadState.{LeadState};
     ghost use Rattle.steal_loops.specs.declared.claimant.Claimant.{Claimant};
-    ghost use Rattle.steal_loops.specs.working.CrewRun.{CanStart, CanLead, HasLedRun, HaveEnded};
+    ghost use Rattle.steal_loops.specs.working.CrewRun.{CanStart, CanLead, HasLedRun, HasWorked, HaveEnded};
 
     type Lead = LeadState;
 
@@ -113,14 +112,14 @@ impl Crew<Claimant, u64> for Shared {
         gate: &G,
         led: LeadState,
         kept: Items<bool>,
-        backs: Items<u64>,
+        backs: Items<Claimant>,
     ) -> EndedCells
         requires { (lead : LeadState) × (members : List Claimant) × (held : List Claimant)
             × (m : ℕ) × (n : ℕ) × CanLead self.now lead × HasLedRun self.now lead led m n
-            × AreDealt (λ _ _. ⊤) members kept held backs }
+            × AreDealt HasWorked members kept held backs }
         ensures { (lead : LeadState) (members held : List Claimant) (m n : ℕ)
             → CanLead self.now lead → HasLedRun self.now lead led m n
-            → AreDealt (λ _ _. ⊤) members kept held backs
+            → AreDealt HasWorked members kept held backs
             → HaveEnded self.now lead result m n }
     {
         let _ = kept;

@@ -3,10 +3,9 @@ ghost use Rattle.std.specs.Prelude.{◌≡◌, ◌≤◌, All, IfOk, length};
 ghost use Rattle.pw_graph.specs.SoundPlan.{IsSoundPlan};
 ghost use Rattle.cycle_model.specs.WavesFit.{WavesFit};
 ghost use Rattle.ready_queues.specs.Lanes.{loops_limit};
-ghost use Rattle.steal_shelf.specs.Seats.{IsSeatOf};
 ghost use Rattle.steal_loops.specs.working.Cells.{AreCells};
 ghost use Rattle.steal_loops.specs.working.Crews.{IsPrepared};
-ghost use Rattle.steal_loops.specs.working.Claimants.{IsWorker, IsWorkersWay};
+ghost use Rattle.steal_loops.specs.working.Claimants.{IsUnusedSeat, IsWorker, IsWorkersWay};
 
 use crate::claimant::Claimant;
 use crate::leading::Driving;
@@ -30,7 +29,7 @@ fn claimants_of(
     ways: Items<Way>,
 ) -> Result<Items<Claimant>, Memory>
     requires cells { AreCells shared.now }
-    requires seats { All (IsSeatOf shared.now.shelf) seats }
+    requires seats { All (IsUnusedSeat shared.now.shelf) seats }
     requires ways { All (IsWorkersWay shared.now.ways) ways }
     requires count { length ways ≡ length seats }
     ensures workers { IfOk result (All (IsWorker shared.now)) }

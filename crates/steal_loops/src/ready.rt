@@ -1,5 +1,6 @@
 //! How a thread finds the cells that are ready, by the signs of their nodes.
 ghost use Rattle.std.specs.Prelude.{◌≡◌};
+ghost use Rattle.crossbeam_utils.specs.Token.{parker_view};
 ghost use Rattle.steal_loops.specs.working.Cells.{AreCells};
 ghost use Rattle.steal_loops.specs.working.Claimants.{IsClaimant};
 
@@ -23,6 +24,7 @@ pub(crate) fn visit_signed<R: Wait, G: Gate>(
     requires claimant { IsClaimant shared.now claimant.old }
     ensures claimant { IsClaimant shared.now claimant.new }
     ensures number { claimant.new.way.number ≡ claimant.old.way.number }
+    ensures awake { parker_view claimant.new.way.own ≡ parker_view claimant.old.way.own }
 {
     let cell = shared.seating.holder(node);
     if cell >= shared.seating.loops() {
@@ -48,6 +50,7 @@ pub(crate) fn visit_kept<R: Wait, G: Gate>(
     requires claimant { IsClaimant shared.now claimant.old }
     ensures claimant { IsClaimant shared.now claimant.new }
     ensures number { claimant.new.way.number ≡ claimant.old.way.number }
+    ensures awake { parker_view claimant.new.way.own ≡ parker_view claimant.old.way.own }
 {
     let Some(node) = claimant.kept else {
         return false;
@@ -68,6 +71,7 @@ pub(crate) fn visit_some<R: Wait, G: Gate>(
     requires claimant { IsClaimant shared.now claimant.old }
     ensures claimant { IsClaimant shared.now claimant.new }
     ensures number { claimant.new.way.number ≡ claimant.old.way.number }
+    ensures awake { parker_view claimant.new.way.own ≡ parker_view claimant.old.way.own }
 {
     match shared.signs.take_next(claimant.node) {
         Some(node) => visit_signed(rt, gate, shared, claimant, node),

@@ -1,5 +1,6 @@
 //! How a thread goes through all cells, one after the other.
 ghost use Rattle.std.specs.Prelude.{◌≡◌};
+ghost use Rattle.crossbeam_utils.specs.Token.{parker_view};
 ghost use Rattle.steal_loops.specs.working.Cells.{AreCells};
 ghost use Rattle.steal_loops.specs.working.Claimants.{IsClaimant};
 
@@ -21,10 +22,11 @@ pub(crate) fn visit_next<R: Wait, G: Gate>(
     requires claimant { IsClaimant shared.now claimant.old }
     ensures claimant { IsClaimant shared.now claimant.new }
     ensures number { claimant.new.way.number ≡ claimant.old.way.number }
+    ensures awake { parker_view claimant.new.way.own ≡ parker_view claimant.old.way.own }
 {
     let cell = cell_at(claimant.next, claimant.ended.len());
     claimant.next = cell.saturating_add(1);
-    if cell >= claimant.ended.len() || claimant.ended[cell] {
+    if cell >= claimant.ended.len() {
         return false;
     }
     has_done(visit(rt, gate, shared, claimant, cell as u32))

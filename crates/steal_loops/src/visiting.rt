@@ -1,5 +1,6 @@
 //! What a thread does with one cell.
 ghost use Rattle.std.specs.Prelude.{◌≡◌, ◌<◌, IfNone, IfSome, length};
+ghost use Rattle.crossbeam_utils.specs.Token.{parker_view};
 ghost use Rattle.data_loop.specs.Loops.{plan_of};
 ghost use Rattle.steal_shelf.specs.working.CellSteps.{HasStepped};
 ghost use Rattle.steal_shelf.specs.Seats.{cells_of, IsAllowed};
@@ -97,7 +98,8 @@ pub(crate) fn advance_unless_ended<G: Gate>(
 
 /// One try of a cell: where it is at home, one step of it, after which it is put back. What it
 /// woke is sent, but for the first node that has a cell: the thread keeps that, to visit its cell
-/// next. One that is found at its end is noted. It may wait where it sends. Takes no memory.
+/// next. One that is found at its end is noted, and not tried again. It may wait where it sends.
+/// Takes no memory.
 /// Condition: there is such a cell.
 pub(crate) fn visit<R: Wait, G: Gate>(
     rt: &R,
@@ -111,8 +113,12 @@ pub(crate) fn visit<R: Wait, G: Gate>(
     requires cell { cell < length (cells_of shared.now.shelf) }
     ensures claimant { IsClaimant shared.now claimant.new }
     ensures number { claimant.new.way.number ≡ claimant.old.way.number }
+    ensures awake { parker_view claimant.new.way.own ≡ parker_view claimant.old.way.own }
     ensures visited { HasVisited shared.now cell result claimant.old claimant.new }
 {
+    if claimant.has_ended(cell) {
+        return Visited::Ended;
+    }
     let Some(mut state) = shared.shelf.fetch(&mut claimant.seat, cell) else {
         return Visited::Out;
     };

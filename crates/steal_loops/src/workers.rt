@@ -1,5 +1,6 @@
 //! What a worker does until all cells are at their end.
 ghost use Rattle.std.specs.Prelude.{◌≡◌, ◌<◌, IsTrue};
+ghost use Rattle.crossbeam_utils.specs.Token.{parker_view};
 ghost use Rattle.steal_loops.specs.working.Cells.{AreCells, HaveFinished};
 ghost use Rattle.steal_loops.specs.working.Claimants.{IsClaimant, IsWorker};
 
@@ -19,6 +20,7 @@ fn visit_given<R: Wait, G: Gate>(rt: &R, gate: &G, shared: &Shared, claimant: &m
     requires own { claimant.old.way.number < shared.now.ways.loops }
     ensures claimant { IsClaimant shared.now claimant.new }
     ensures number { claimant.new.way.number ≡ claimant.old.way.number }
+    ensures awake { parker_view claimant.new.way.own ≡ parker_view claimant.old.way.own }
 {
     let Some(node) = shared.ways.receive(rt, &mut claimant.way) else {
         return false;
@@ -37,6 +39,7 @@ fn go_round<R: Wait, G: Gate>(rt: &R, gate: &G, shared: &Shared, claimant: &mut 
     requires own { claimant.old.way.number < shared.now.ways.loops }
     ensures claimant { IsClaimant shared.now claimant.new }
     ensures number { claimant.new.way.number ≡ claimant.old.way.number }
+    ensures awake { parker_view claimant.new.way.own ≡ parker_view claimant.old.way.own }
 {
     if visit_kept(rt, gate, shared, claimant) {
         return true;
@@ -61,7 +64,8 @@ fn is_over<R: Wait, G: Gate>(
     requires own { claimant.old.way.number < shared.now.ways.loops }
     ensures claimant { IsClaimant shared.now claimant.new }
     ensures number { claimant.new.way.number ≡ claimant.old.way.number }
-    ensures over { IsTrue result → HaveFinished shared.now }
+    ensures awake { parker_view claimant.new.way.own ≡ parker_view claimant.old.way.own }
+    ensures over { IsTrue result → HaveFinished shared.now claimant.new.seat }
 {
     if go_round(rt, gate, shared, claimant) {
         backoff.reset();
@@ -97,7 +101,8 @@ pub(crate) fn run_worker<R: Wait, G: Gate>(
     requires cells { AreCells shared.now }
     requires worker { IsWorker shared.now claimant }
     ensures worker { IsWorker shared.now result }
-    ensures over { HaveFinished shared.now }
+    ensures over { HaveFinished shared.now result.seat }
+    ensures awake { parker_view result.way.own ≡ parker_view claimant.way.own }
 {
     let mut claimant = claimant;
     let backoff = Backoff::new();

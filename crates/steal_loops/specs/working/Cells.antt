@@ -7,6 +7,8 @@ use Rattle.data_loop.specs.declared.loop_state.LoopState.{LoopState}
 use Rattle.data_loop.specs.Loops.{plan_of, IsLoop}
 use Rattle.data_loop.specs.LoopKept.{IsDone}
 use Rattle.data_loop.specs.LoopWay.{HasBoards, HasNoDriver, IsSameLoop}
+use Rattle.steal_shelf.specs.declared.shelf.ShelfSeat.{ShelfSeat}
+use Rattle.steal_shelf.specs.Fetching.{HasLeftSo}
 use Rattle.steal_shelf.specs.Seats.{cells_of}
 use Rattle.steal_loops.specs.declared.shared.Shared.{Shared}
 use Rattle.steal_loops.specs.working.NodeSets.{AreCelled}
@@ -35,12 +37,12 @@ module _ (shared : Shared) where
     pub done : IsDone s
     pub same : IsSameLoop cell s
 
-  -- it was so at one moment; and each of them was
-  abbrev pub HasFinished : ℕ → Type 0
-  HasFinished i = (s : LoopState) × IsFinished i s
+  -- so the seat left it, the last time that it put it back; and so it left each of them
+  abbrev pub HasFinished : ShelfSeat → ℕ → Type 0
+  HasFinished seat i = (s : LoopState) × HasLeftSo seat i s × IsFinished i s
 
-  abbrev pub HaveFinished : Type 0
-  HaveFinished = (i : ℕ) → i < length (cells_of shared.shelf) → HasFinished i
+  abbrev pub HaveFinished : ShelfSeat → Type 0
+  HaveFinished seat = (i : ℕ) → i < length (cells_of shared.shelf) → HasFinished seat i
 
   -- the first n of them, in their order
   pub record AreCollected (n : ℕ) (list : List LoopState) : Type 0 where

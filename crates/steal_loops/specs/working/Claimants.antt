@@ -4,20 +4,27 @@ use Rattle.std.specs.Prelude.{◌≡◌, ℕ, ◌<◌, Bool, true, length, slice
 use Rattle.ready_queues.specs.declared.way.Way.{Way}
 use Rattle.ready_queues.specs.declared.ways.Ways.{Ways}
 use Rattle.ready_queues.specs.AnsweredWith.{IsWayOf}
-use Rattle.steal_shelf.specs.Seats.{cells_of, IsSeatOf}
+use Rattle.steal_shelf.specs.declared.shelf.Shelf.{Shelf}
+use Rattle.steal_shelf.specs.declared.shelf.ShelfSeat.{ShelfSeat}
+use Rattle.steal_shelf.specs.Seats.{cells_of, IsSeatOf, IsNewSeat, LacksCell}
 use Rattle.steal_loops.specs.declared.scan.Scan.{Scan}
 use Rattle.steal_loops.specs.declared.shared.Shared.{Shared}
 use Rattle.steal_loops.specs.declared.claimant.Claimant.{Claimant}
 use Rattle.steal_loops.specs.working.Cells.{HasFinished}
 
--- a seat of the shelf, a way to the queues, and a flag for each cell, which was found at its end
--- where the flag is up
+-- a seat of the shelf as it was made
+abbrev pub IsUnusedSeat : Shelf → ShelfSeat → Type 0
+IsUnusedSeat shelf seat = IsSeatOf shelf seat × IsNewSeat shelf seat
+
+-- a seat of the shelf, which has no cell, a way to the queues, and a flag for each cell, which the
+-- seat left at its end where the flag is up
 pub record IsClaimant (shared : Shared) (t : Claimant) : Type 0 where
   pub seat : IsSeatOf shared.shelf t.seat
+  pub rests : (i : ℕ) → i < length (cells_of shared.shelf) → LacksCell t.seat i
   pub answered : IsWayOf shared.ways t.way
   pub flags : length t.ended.items ≡ length (cells_of shared.shelf)
   pub ended : (i : ℕ) (d : Bool) → i < length (cells_of shared.shelf)
-      → slice_index_or t.ended.items i d ≡ true → HasFinished shared i
+      → slice_index_or t.ended.items i d ≡ true → HasFinished shared t.seat i
 
 -- THE WAY of a worker
 abbrev pub IsWorkersWay : Ways → Way → Type 0

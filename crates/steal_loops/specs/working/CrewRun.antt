@@ -2,6 +2,7 @@
 -- Source: PipeWire's documentation, "Data loops"; that any thread runs any node is this project's
 -- own.
 use Rattle.std.specs.Prelude.{◌≡◌, ℕ, ◌<◌, [], length}
+use Rattle.crossbeam_utils.specs.Token.{parker_view}
 use Rattle.graph_run.specs.Leads.{HaveLed, HaveLooked}
 use Rattle.graph_run.specs.Outcomes.{AreDone}
 use Rattle.graph_run.specs.Threads.{HasRun}
@@ -10,7 +11,7 @@ use Rattle.steal_loops.specs.declared.crew.EndedCells.{EndedCells}
 use Rattle.steal_loops.specs.declared.crew.LeadState.{LeadState}
 use Rattle.steal_loops.specs.declared.shared.Shared.{Shared}
 use Rattle.steal_loops.specs.declared.claimant.Claimant.{Claimant}
-use Rattle.steal_loops.specs.working.Cells.{AreCells}
+use Rattle.steal_loops.specs.working.Cells.{AreCells, HaveFinished}
 use Rattle.steal_loops.specs.working.Claimants.{IsWorker, IsDriverClaimant}
 use Rattle.steal_loops.specs.working.Crews.{CanDrive, HasNode}
 
@@ -43,3 +44,8 @@ module _ (shared : Shared) where
     pub done : AreDone shared.run_model.plan.value shared.run_model.waves.value e.done
     pub drivers : HaveLed (length shared.boards) shared.boards l.driving.drivers e.drivers
     pub looked : HaveLooked l.driving.drivers e.drivers m n
+
+-- WORKED: from t to u a worker's thread has left each cell of its run at its end, and did not rest
+pub record HasWorked (t u : Claimant) : Type 0 where
+  pub finished : (shared : Shared) → CanStart shared t → HaveFinished shared u.seat
+  pub awake : parker_view u.way.own ≡ parker_view t.way.own

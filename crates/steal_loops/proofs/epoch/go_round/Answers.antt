@@ -6,7 +6,7 @@ use Rattle.steal_loops.proofs.epoch.go_round.Goals as goal
 
 pub visit_ready-cell_ran-requires-clause-claimant : goal.visit_ready-cell_ran-requires-clause-claimant
 visit_ready-cell_ran-requires-clause-claimant g c = let h = c.requires.scan.0 in
-    again c.args.at.now.shared.now c.args.scan.now.claimant _ h h.seat c.turn_one-own_ran.ensures.way.0 refl
+    again c.args.at.now.shared.now c.args.scan.now.claimant _ h refl c.turn_one-own_ran.ensures.way.0 refl
 
 pub lead_once-ended-requires-clause-led_so_far : goal.lead_once-ended-requires-clause-led_so_far
 lead_once-ended-requires-clause-led_so_far g c = let v = c.args.seat.now.knows in

@@ -35,7 +35,7 @@ run_cycle-requires-clause-thread g c = let b = c.args.at.now.board.now in let a 
 
 pub run_cycle-requires-clause-scan : goal.run_cycle-requires-clause-scan
 run_cycle-requires-clause-scan g c = let p = c.loop-seat.invariant.scan in let w = c.begin_sent.ensures.way in
-    (again c.args.at.now.shared.now c.loop-seat.scan.claimant _ p.0 p.0.seat w.0 refl, w.1)
+    (again c.args.at.now.shared.now c.loop-seat.scan.claimant _ p.0 refl w.0 refl, w.1)
 
 pub returns-clause-gone : goal.returns-clause-gone
 returns-clause-gone g c = let a = c.loop-seat in let e = c.loop-seat-test.ensures in let ticks = g.K.Ticker.ticks in
@@ -45,4 +45,4 @@ returns-clause-gone g c = let a = c.loop-seat in let e = c.loop-seat-test.ensure
 
 pub returns-clause-scan : goal.returns-clause-scan
 returns-clause-scan g c = let p = c.loop-seat.invariant.scan in let w = c.begin_sent.ensures.way in
-    (again c.args.at.now.shared.now c.loop-seat.scan.claimant _ p.0 p.0.seat w.0 refl, w.1)
+    (again c.args.at.now.shared.now c.loop-seat.scan.claimant _ p.0 refl w.0 refl, w.1)

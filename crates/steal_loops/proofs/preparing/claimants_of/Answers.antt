@@ -3,9 +3,8 @@ use Rattle.std.specs.Prelude.{All, replicate}
 use Rattle.std.proofs.lemmas.List.Elements.{All-head, All-tail, All-push}
 use Rattle.ready_queues.specs.declared.way.Way.{Way}
 use Rattle.steal_shelf.specs.declared.shelf.ShelfSeat.{ShelfSeat}
-use Rattle.steal_shelf.specs.Seats.{IsSeatOf}
 use Rattle.steal_loops.specs.declared.claimant.Claimant.{Claimant}
-use Rattle.steal_loops.specs.working.Claimants.{IsWorker, IsWorkersWay}
+use Rattle.steal_loops.specs.working.Claimants.{IsUnusedSeat, IsWorker, IsWorkersWay}
 use Rattle.steal_loops.proofs.PrepareLemmas.{new_worker}
 use Rattle.steal_loops.proofs.preparing.claimants_of.Goals as goal
 
@@ -15,17 +14,17 @@ loop-seat-preserved-in-Continue-branch-2 c = let i = c.loop-seat.invariant in le
     let rest = c.next-in-loop-seat.new.self.rest.items in let left = c.next.new.self.rest.items in
     let ways_step : c.loop-seat.rest.rest.items ≡ way ∷ rest = c.in-Some-next.ensures.items in
     let seats_step : c.loop-seat.seat-iterator.rest.items ≡ seat ∷ left = c.in-Some.ensures.steps.0 in
-    let seats = subst (All (IsSeatOf shared.shelf)) seats_step i.seats in
+    let seats = subst (All (IsUnusedSeat shared.shelf)) seats_step i.seats in
     let ways = subst (All (IsWorkersWay shared.ways)) ways_step i.ways in
     let t : Claimant = c.in_ok-claimant.claimant in let made = c.in_ok-claimant.ensures in
     let many = ap (λ (l : List Way). length l) ways_step in let few = ap (λ (l : List ShelfSeat). length l) seats_step in
     let same = i.same in let count = i.count in
     let pushed = c.in_ok-push.ensures.ok in let long = ap (λ (l : List Claimant). length l) pushed in let grown = length-append c.loop-seat.claimants (t ∷ []) in record {
-      seats = All-tail (IsSeatOf shared.shelf) seat left seats;
+      seats = All-tail (IsUnusedSeat shared.shelf) seat left seats;
       ways = All-tail (IsWorkersWay shared.ways) way rest ways;
       same = omega (arith, many, few, same);
       claimants = subst (All (IsWorker shared)) (sym pushed) (All-push (IsWorker shared) c.loop-seat.claimants t i.claimants
-          (new_worker shared c.requires.cells t (subst (IsSeatOf shared.shelf) (sym made.seat) (All-head (IsSeatOf shared.shelf) seat left seats))
+          (new_worker shared c.requires.cells t (subst (IsUnusedSeat shared.shelf) (sym made.seat) (All-head (IsUnusedSeat shared.shelf) seat left seats))
           (subst (IsWorkersWay shared.ways) (sym made.way) (All-head (IsWorkersWay shared.ways) way rest ways))
           (made.ended ∙ ap (λ (n : ℕ). replicate n false) c.loops-cells.ensures)));
       count = omega (arith, many, count, long, grown);

@@ -1,12 +1,11 @@
 use Rattle.std.proofs.Common.{◌≡◌, ◌+◌, length}
 use Rattle.std.specs.Prelude.{All}
-use Rattle.steal_shelf.specs.Seats.{IsSeatOf}
-use Rattle.steal_loops.specs.working.Claimants.{IsWorker, IsWorkersWay}
+use Rattle.steal_loops.specs.working.Claimants.{IsUnusedSeat, IsWorker, IsWorkersWay}
 use Rattle.steal_loops.proofs.preparing.claimants_of.Given as goal
 
 abbrev pub invariant-loop-seat : goal.invariant-loop-seat
 invariant-loop-seat l = record {
-  seats : All (IsSeatOf l.shared.shelf) l.seat-iterator.rest.items;
+  seats : All (IsUnusedSeat l.shared.shelf) l.seat-iterator.rest.items;
   ways : All (IsWorkersWay l.shared.ways) l.rest.rest.items;
   same : length l.rest.rest.items ≡ length l.seat-iterator.rest.items;
   claimants : All (IsWorker l.shared) l.claimants;

@@ -5,12 +5,12 @@ use Rattle.ready_queues.specs.AnsweredWith.{IsWayOf}
 use Rattle.data_loop.specs.declared.loop_state.LoopState.{LoopState}
 use Rattle.graph_run.proofs.SeatingLemmas.{cells_seat}
 use Rattle.steal_shelf.specs.declared.shelf.ShelfSeat.{ShelfSeat}
-use Rattle.steal_shelf.specs.Seats.{IsSeatOf}
 use Rattle.steal_loops.specs.declared.opening.Opened.{Opened}
 use Rattle.steal_loops.specs.declared.shared.Shared.{Shared}
 use Rattle.steal_loops.specs.declared.claimant.Claimant.{Claimant}
 use Rattle.steal_loops.specs.working.Cells.{AreCells}
 use Rattle.steal_loops.specs.working.Crews.{HasNode}
+use Rattle.steal_loops.specs.working.Claimants.{IsUnusedSeat}
 use Rattle.steal_loops.proofs.PrepareLemmas.{front, back, few_nodes, workers_ways, all_first, all_alike, node_there, are_cells, new_claimant, drives}
 use Rattle.steal_loops.proofs.preparing.prepare.Goals as goal
 
@@ -26,9 +26,10 @@ claimants_of-requires c = let plan = c.args.plan.now in let waves = c.args.waves
     let shared : Shared = record { boards = o.boards; ways = c.in_ok-ways.ways; signs = c.new-signs.result; shelf = c.in_ok-shelf.shelf; seating = o.seating; run_model = c.of.result } in
     let few = cells_seat plan (few_nodes plan c.requires.sound) in let seat : ShelfSeat = c.unwrap-seat.result in let left : List ShelfSeat = c.pop.new.self in
     let whole : c.in_ok-shelf.seats ≡ left ++ seat ∷ [] = c.pop.ensures.list ∙ ap (λ (x : Option ShelfSeat). left ++ option_to_list x) c.unwrap-seat.ensures in
+    let unused : All (IsUnusedSeat c.in_ok-shelf.shelf) c.in_ok-shelf.seats = λ i d low. (made.seats i d low, made.new i d low) in
     let long = ap (λ (l : List ShelfSeat). length l) whole in let parts = length-append left (seat ∷ []) in let many = made.count in let ways = w.count in record {
       cells = are_cells plan waves o opened shared refl c.of.ensures.plan c.of.ensures.waves made.cells refl few.few c.new-signs.ensures;
-      seats = front (IsSeatOf c.in_ok-shelf.shelf) left (seat ∷ []) (subst (All (IsSeatOf c.in_ok-shelf.shelf)) whole made.seats);
+      seats = front (IsUnusedSeat c.in_ok-shelf.shelf) left (seat ∷ []) (subst (All (IsUnusedSeat c.in_ok-shelf.shelf)) whole unused);
       ways = workers_ways c.in_ok-ways.ways c.args.loops c.in_ok-ways.others w.loops w.count w.ways;
       count = omega (arith, long, parts, many, ways);
     }
@@ -40,9 +41,10 @@ returns c = let plan = c.args.plan.now in let waves = c.args.waves.now in let o 
     let seating = cells_seat plan (few_nodes plan c.requires.sound) in let seat : ShelfSeat = c.unwrap-seat.result in let left : List ShelfSeat = c.pop.new.self in
     let whole : c.in_ok-shelf.seats ≡ left ++ seat ∷ [] = c.pop.ensures.list ∙ ap (λ (x : Option ShelfSeat). left ++ option_to_list x) c.unwrap-seat.ensures in
     let cells : AreCells shared = are_cells plan waves o opened shared refl p v made.cells refl seating.few c.new-signs.ensures in
+    let unused : All (IsUnusedSeat c.in_ok-shelf.shelf) c.in_ok-shelf.seats = λ i d low. (made.seats i d low, made.new i d low) in
     let claimant : Claimant = c.in_ok-claimant.claimant in let t = c.in_ok-claimant.ensures in let way = sym t.way in
     let is = new_claimant shared cells claimant
-    (subst (IsSeatOf shared.shelf) (sym t.seat) (back (IsSeatOf shared.shelf) left seat (subst (All (IsSeatOf shared.shelf)) whole made.seats)))
+    (subst (IsUnusedSeat shared.shelf) (sym t.seat) (back (IsUnusedSeat shared.shelf) left seat (subst (All (IsUnusedSeat shared.shelf)) whole unused)))
     (subst (IsWayOf shared.ways) way w.driver.answered) (t.ended ∙ ap (λ (n : ℕ). replicate n false) c.loops.ensures) in record {
       plan_is = p;
       waves_are = v;

@@ -9,5 +9,5 @@ rest_unless-requires g c = let v = c.visit_next.ensures in record { way = (v.cla
 pub returns : goal.returns
 returns g c = let v = c.visit_next.ensures.claimant in let w = c.rest_unless.ensures.way in record {
   scan = subst (IsDriverClaimant c.args.shared.now) (sym c.begin_anew-2.ensures)
-      (again c.args.shared.now c.visit_next.new.claimant _ v v.seat w.0 refl, w.1);
+      (again c.args.shared.now c.visit_next.new.claimant _ v refl w.0 refl, w.1);
 }

@@ -15,6 +15,9 @@ use Rattle.steal_loops.proofs.stealing_run.run_stealing_with.Goals as goal
 pub run-done-requires-send-M : goal.run-done-requires-send-M
 run-done-requires-send-M g c κs within = search (sendable, claimant_send) depth 30
 
+pub run-done-requires-send-B : goal.run-done-requires-send-B
+run-done-requires-send-B g c κs within = search (sendable, claimant_send) depth 30
+
 pub run-done-requires-sync-C : goal.run-done-requires-sync-C
 run-done-requires-sync-C g c κs within = search (sendable, shared_sync) depth 30
 

@@ -1,12 +1,34 @@
-use Rattle.std.proofs.Common.{ℕ, refl, subst}
+use Rattle.std.proofs.Common.{ℕ, Bool, true, refl, arith, ◌∙◌, subst, get_or-set_same}
 use Rattle.steal_loops.specs.working.NodeSets.{IsKept}
-use Rattle.steal_loops.proofs.ClaimantLemmas.{flagged, at_end}
+use Rattle.steal_loops.proofs.ClaimantLemmas.{tried, stepped, flagged, at_end}
 use Rattle.steal_loops.proofs.visiting.visit.Goals as goal
+
+pub has_ended-requires : goal.has_ended-requires
+has_ended-requires g c = let n = c.requires.claimant.flags in let low = c.requires.cell in omega (arith, n, low)
+
+pub returns-then-has_ended-clause-visited : goal.returns-then-has_ended-clause-visited
+returns-then-has_ended-clause-visited g c = let h = c.requires.claimant in let up = λ (d : Bool). c.has_ended.ensures d ∙ c.if-has_ended.true in (
+  h.ended c.args.cell true c.requires.cell (up true),
+  h.rests c.args.cell c.requires.cell,
+  up,
+  refl,
+)
+
+pub returns-in_default-clause-claimant : goal.returns-in_default-clause-claimant
+returns-in_default-clause-claimant g c = let h = c.requires.claimant in
+    tried c.args.shared.now c.args.claimant.now _ c.args.cell h c.in_default.ensures.none c.fetch.ensures.others c.fetch.ensures.seat h.answered refl
+
+pub returns-in-Some-stepped-clause-claimant : goal.returns-in-Some-stepped-clause-claimant
+returns-in-Some-stepped-clause-claimant g c = stepped c.args.shared.now c.args.claimant.now _ c.args.cell c.advance_unless_ended-stepped.new.state
+    c.fetch.new.seat c.requires.claimant c.fetch.ensures.others c.put_back.ensures.others c.put_back.ensures.back c.put_back.ensures.seat
+    c.forward.ensures.answered refl (λ d. c.has_ended.ensures d ∙ c.if-has_ended.false)
 
 pub returns-in-Some-stepped-clause-visited : goal.returns-in-Some-stepped-clause-visited
 returns-in-Some-stepped-clause-visited g c = record {
   found = c.in-Some.state;
   back = c.advance_unless_ended-stepped.new.state;
+  took = λ d. c.put_back.ensures.back.took d ∙ c.in-Some.ensures.some.0.took d;
+  left = c.put_back.ensures.back.left;
   allowed = c.in-Some.ensures.some.1;
   stepped = c.in-Some-stepped.ensures.stepped;
   lacks = c.put_back.ensures.back.lacks;
@@ -18,12 +40,18 @@ returns-in-Some-stepped-clause-visited g c = record {
 
 pub returns-in-None-clause-claimant : goal.returns-in-None-clause-claimant
 returns-in-None-clause-claimant g c = let h = c.requires.claimant in let s = c.advance_unless_ended-stepped.new.state in
-    flagged c.args.shared.now c.args.claimant.now _ c.args.cell h c.put_back.ensures.seat h.answered refl
-    (s, at_end c.args.shared.now c.args.cell s c.requires.cells c.advance_unless_ended-stepped.ensures.allowed c.in-None.ensures.end)
+    flagged c.args.shared.now c.args.claimant.now _ c.args.cell s c.fetch.new.seat h c.fetch.ensures.others c.put_back.ensures.others
+    c.put_back.ensures.back c.put_back.ensures.seat h.answered refl
+    (at_end c.args.shared.now c.args.cell s c.requires.cells c.advance_unless_ended-stepped.ensures.allowed c.in-None.ensures.end)
 
 pub returns-in-None-clause-visited : goal.returns-in-None-clause-visited
-returns-in-None-clause-visited g c = let s = c.advance_unless_ended-stepped.new.state in (
-  (s, at_end c.args.shared.now c.args.cell s c.requires.cells c.advance_unless_ended-stepped.ensures.allowed c.in-None.ensures.end),
+returns-in-None-clause-visited g c = let s = c.advance_unless_ended-stepped.new.state in let n = c.requires.claimant.flags in let low = c.requires.cell in (
+  (
+    s,
+    c.put_back.ensures.back.left,
+    at_end c.args.shared.now c.args.cell s c.requires.cells c.advance_unless_ended-stepped.ensures.allowed c.in-None.ensures.end,
+  ),
   c.put_back.ensures.back.lacks,
+  λ d. get_or-set_same c.args.claimant.now.ended.items c.args.cell true d (omega (arith, n, low)),
   refl,
 )

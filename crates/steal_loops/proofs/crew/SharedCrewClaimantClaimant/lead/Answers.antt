@@ -1,4 +1,4 @@
-use Rattle.steal_loops.proofs.crew.SharedCrewClaimantU64.lead.Goals as goal
+use Rattle.steal_loops.proofs.crew.SharedCrewClaimantClaimant.lead.Goals as goal
 
 pub drive-driving-requires-clause-cells : goal.drive-driving-requires-clause-cells
 drive-driving-requires-clause-cells g c = c.requires.leads.1.cells

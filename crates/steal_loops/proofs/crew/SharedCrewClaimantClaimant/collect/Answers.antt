@@ -2,7 +2,7 @@ use Rattle.std.proofs.Common.{◌∙◌, ◌≤◌, ◌<◌, List, length, ap, a
 use Rattle.pw_lists.specs.Listed.{Listed}
 use Rattle.data_loop.specs.declared.loop_state.LoopState.{LoopState}
 use Rattle.steal_loops.proofs.DoneLemmas.{are_done}
-use Rattle.steal_loops.proofs.crew.SharedCrewClaimantU64.collect.Goals as goal
+use Rattle.steal_loops.proofs.crew.SharedCrewClaimantClaimant.collect.Goals as goal
 
 pub collect_all-requires-clause-cells : goal.collect_all-requires-clause-cells
 collect_all-requires-clause-cells g c = c.requires.5.cells
