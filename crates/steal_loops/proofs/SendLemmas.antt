@@ -12,6 +12,7 @@ use Rattle.ready_queues.specs.contracts.ways.Ways as ways_row
 use Rattle.steal_shelf.specs.contracts.shelf.Shelf as shelf_row
 use Rattle.steal_shelf.specs.contracts.shelf.ShelfSeat as shelf_seat_row
 use Rattle.steal_shelf.specs.contracts.token.Token as token_row
+use Rattle.steal_loops.specs.contracts.counts.HintCounts as hints_row
 use Rattle.steal_loops.specs.contracts.shared.Shared as shared_row
 use Rattle.steal_loops.specs.contracts.signs.Signs as signs_row
 use Rattle.steal_loops.specs.contracts.claimant.Claimant as claimant_row
@@ -27,9 +28,12 @@ seat_field = search (crossing, token_send) depth 30 fits 50000
 way_field : IsSend way_row.the_field.row
 way_field = search (crossing, end_send) depth 30 fits 50000
 
+hints_field : IsSend hints_row.the_field.row
+hints_field = search crossing depth 30 fits 50000
+
 pub claimant_send : IsSend claimant_row.the_row
 claimant_send = let a : IsSend shelf_seat_row.the_field.row = seat_field in let b : IsSend way_row.the_field.row = way_field in
-    search crossing depth 30 fits 50000
+    let c : IsSend hints_row.the_field.row = hints_field in search crossing depth 30 fits 50000
 
 shelf_field : IsSync shelf_row.the_field.row
 shelf_field = search (crossing, loop_send) depth 30 fits 50000

@@ -1,6 +1,7 @@
 //! What one thread takes cells with.
 ghost use Rattle.std.specs.Prelude.{◌≡◌, ◌<◌, All, Bool, IfOk, IsTrue, false, length, replicate, slice_index_or, true};
 
+use crate::counts::HintCounts;
 use data_loop::Way;
 use pw_lists::{Items, Memory};
 use std::alloc::Global;
@@ -8,7 +9,8 @@ use steal_shelf::ShelfSeat;
 
 /// What one thread takes cells with: its seat of the shelf, its way to the queues, and which
 /// cells it has found at their end. Where it looks first: for the node that its last step woke
-/// and that it kept, for the signs from node `node` on, and for the cells from `next` on.
+/// and that it kept, for the signs from node `node` on, and for the cells from `next` on. And how
+/// many steps it found by which hint.
 #[derive(Drop)]
 pub(crate) struct Claimant {
     pub seat: ShelfSeat,
@@ -17,6 +19,7 @@ pub(crate) struct Claimant {
     pub kept: Option<u32>,
     pub node: u32,
     pub next: usize,
+    pub hints: HintCounts,
 }
 
 impl Claimant {
@@ -43,6 +46,7 @@ impl Claimant {
             kept: None,
             node,
             next: 0,
+            hints: HintCounts::new(),
         })
     }
 

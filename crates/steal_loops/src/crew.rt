@@ -4,6 +4,7 @@ ghost use Rattle.std.specs.Prelude.{◌≡◌};
 
 use crate::claimant::Claimant;
 use crate::collecting::collect_all;
+use crate::counts::{HintCounts, RunCounts};
 use crate::leading::{Driving, drive};
 use crate::shared::Shared;
 use crate::workers::run_worker;
@@ -23,12 +24,12 @@ pub(crate) struct LeadState {
 }
 
 /// All cells and the driver's own loop, and the drivers' seats of all boards, after the last
-/// epoch; and how many numbers the workers took out of their queues.
+/// epoch; and what the threads counted.
 #[derive(Drop)]
 pub(crate) struct EndedCells {
     pub done: Items<LoopState>,
     pub drivers: Items<DriverSeat>,
-    pub taken: u64,
+    pub counts: RunCounts,
 }
 
 impl Work<Claimant, Claimant> for Shared {
@@ -55,14 +56,18 @@ fn count_absent(held: Items<Claimant>) -> usize {
     held.len()
 }
 
-// How many numbers the workers took out of their queues in all. No clause says how many. Takes no
-// memory.
-fn sum_of(backs: Items<Claimant>) -> u64 {
-    let mut taken = 0u64;
+// What the workers counted, and by which hints the driver's thread found its steps. No clause says
+// how many. Takes no memory.
+fn counts_of(driver: HintCounts, backs: Items<Claimant>) -> RunCounts {
+    let mut counts = RunCounts {
+        taken: 0,
+        hints: driver,
+    };
     for worker in backs.into_vec() {
-        taken = taken.saturating_add(worker.way.taken());
+        counts.taken = counts.taken.saturating_add(worker.way.taken());
+        counts.hints.add(worker.hints);
     }
-    taken
+    counts
 }
 
 impl Crew<Claimant, Claimant> for Shared {
@@ -134,7 +139,7 @@ impl Crew<Claimant, Claimant> for Shared {
         EndedCells {
             done: done.into_items(),
             drivers,
-            taken: sum_of(backs),
+            counts: counts_of(claimant.hints, backs),
         }
     }
 }

@@ -10,6 +10,7 @@
 mod cell_steps;
 mod claimant;
 mod collecting;
+mod counts;
 mod crew;
 mod epoch;
 mod leading;
@@ -25,4 +26,5 @@ mod stealing_run;
 mod visiting;
 mod workers;
 
-pub use stealing_run::{run_stealing, run_stealing_with};
+pub use counts::{HintCounts, RunCounts};
+pub use stealing_run::{run_stealing, run_stealing_counted, run_stealing_with};

@@ -5,20 +5,22 @@ ghost use Rattle.steal_loops.specs.working.Cells.{AreCells};
 ghost use Rattle.steal_loops.specs.working.Claimants.{IsClaimant};
 
 use crate::claimant::Claimant;
+use crate::counts::Hint;
 use crate::shared::Shared;
 use crate::visiting::{has_done, leaves_ready, visit};
 use pw_outside::Gate;
 use std::sync::Wait;
 
-/// Visits the cell of a node whose sign this thread took, or that it kept. The sign is set again
-/// where the node may still be ready. Whether the visit did something. It may wait where it
-/// sends. Takes no memory.
+/// Visits the cell of a node whose sign this thread took, or that it kept: `hint` says which. The
+/// sign is set again where the node may still be ready. Whether the visit did something. It may
+/// wait where it sends. Takes no memory.
 pub(crate) fn visit_signed<R: Wait, G: Gate>(
     rt: &R,
     gate: &G,
     shared: &Shared,
     claimant: &mut Claimant,
     node: u32,
+    hint: Hint,
 ) -> bool
     requires cells { AreCells shared.now }
     requires claimant { IsClaimant shared.now claimant.old }
@@ -30,7 +32,7 @@ pub(crate) fn visit_signed<R: Wait, G: Gate>(
     if cell >= shared.seating.loops() {
         return false;
     }
-    let found = visit(rt, gate, shared, claimant, cell);
+    let found = visit(rt, gate, shared, claimant, cell, hint);
     if leaves_ready(found) {
         shared.signs.set_again(node);
     }
@@ -56,7 +58,7 @@ pub(crate) fn visit_kept<R: Wait, G: Gate>(
         return false;
     };
     claimant.kept = None;
-    visit_signed(rt, gate, shared, claimant, node)
+    visit_signed(rt, gate, shared, claimant, node, Hint::Kept)
 }
 
 /// Visits the cell of some node that has a sign. Whether the visit did something. It may wait
@@ -74,7 +76,7 @@ pub(crate) fn visit_some<R: Wait, G: Gate>(
     ensures awake { parker_view claimant.new.way.own ≡ parker_view claimant.old.way.own }
 {
     match shared.signs.take_next(claimant.node) {
-        Some(node) => visit_signed(rt, gate, shared, claimant, node),
+        Some(node) => visit_signed(rt, gate, shared, claimant, node, Hint::Signed),
         None => false,
     }
 }

@@ -5,6 +5,7 @@ ghost use Rattle.steal_loops.specs.working.Cells.{AreCells};
 ghost use Rattle.steal_loops.specs.working.Claimants.{IsClaimant};
 
 use crate::claimant::{Claimant, cell_at};
+use crate::counts::Hint;
 use crate::shared::Shared;
 use crate::visiting::{has_done, visit};
 use pw_outside::Gate;
@@ -29,5 +30,5 @@ pub(crate) fn visit_next<R: Wait, G: Gate>(
     if cell >= claimant.ended.len() {
         return false;
     }
-    has_done(visit(rt, gate, shared, claimant, cell as u32))
+    has_done(visit(rt, gate, shared, claimant, cell as u32, Hint::Scanned))
 }

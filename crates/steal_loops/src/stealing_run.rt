@@ -8,6 +8,7 @@ ghost use Rattle.ready_queues.specs.Lanes.{loops_limit};
 ghost use Rattle.graph_run.specs.Assignment.{cell_number, cell_count};
 ghost use Rattle.graph_run.specs.PlanRun.{IsRunOf};
 
+use crate::counts::RunCounts;
 use crate::crew::{EndedCells, LeadState};
 use crate::preparing::{Prepared, prepare};
 use board_rule::Closed;
@@ -20,6 +21,60 @@ use std::alloc::Global;
 use std::sync::Wait;
 use std::thread::Threads;
 use wav_files::{Outcome, WavIn};
+
+/// Runs a plan as `run_stealing_with` does. It answers the same, and what the threads counted, of
+/// which no clause says anything: where no worker is started, it is the same each time.
+pub fn run_stealing_counted<R: Threads + Wait + Sync, G: Gate + Sync, K: Ticker, S: Starts>(
+    rt: &R,
+    alloc: Global,
+    plan: &Plan,
+    waves: &Items<WavIn>,
+    roster: &Roster<'_, S>,
+    gate: &G,
+    ticker: &mut K,
+) -> Result<(Outcome, Items<Closed>, RunCounts), Memory>
+    requires sound { IsSoundPlan plan.now }
+    requires fit { WavesFit plan.now waves.now }
+    requires few { roster.now.loops ≤ loops_limit }
+    requires adopt { length roster.now.adopt.now ≡ roster.now.loops }
+    ensures sinks { IfOk result (λ r. r.0.sinks ≡ rendered_sinks plan.now waves.now) }
+    ensures peaks { IfOk result (λ r. r.0.peaks ≡ rendered_peaks plan.now waves.now) }
+    // Each node that never drives is on a seat that no other has.
+    ensures run { IfOk result (λ r. IsRunOf plan.now waves.now
+        (cell_number plan.now) (cell_count plan.now) r.0.history r.1
+        (K.ticks ticker.old) (K.ticks ticker.new)) }
+    // What the sinks keep can be written as WAV files.
+    ensures waves { IfOk result (λ r. All (λ kept. IsWave kept.wav) r.0.sinks) }
+    ensures later { K.ticks ticker.old ≤ K.ticks ticker.new }
+{
+    let rooms = rooms_for(alloc, plan)?;
+    let places = places_for(alloc, roster.loops as usize)?;
+    let Prepared {
+        shared,
+        workers,
+        driving,
+    } = prepare(alloc, plan, waves, roster.loops)?;
+    let done = Items::new(alloc).into_room(shared.seating.loops() as usize + 1)?;
+    let (starts, adopt) = (roster.starts, roster.adopt);
+    let EndedCells {
+        done,
+        drivers,
+        counts,
+    } = run(
+        rt,
+        gate,
+        &shared,
+        starts,
+        adopt,
+        workers,
+        LeadState { driving, done },
+        places,
+        ticker,
+    );
+    let ended = EndedRun::new(shared.boards, drivers, done, rooms);
+    let (outcome, closed) = finish_run(alloc, plan, waves, ended);
+    Ok((outcome, closed, counts))
+}
 
 /// Runs a plan as `run_stealing` does, by the workers of the roster, which refuses starts of its
 /// own. It answers the same, and how many numbers the workers took out of their queues in all, of
@@ -47,33 +102,10 @@ pub fn run_stealing_with<R: Threads + Wait + Sync, G: Gate + Sync, K: Ticker, S:
     ensures waves { IfOk result (λ r. All (λ kept. IsWave kept.wav) r.0.sinks) }
     ensures later { K.ticks ticker.old ≤ K.ticks ticker.new }
 {
-    let rooms = rooms_for(alloc, plan)?;
-    let places = places_for(alloc, roster.loops as usize)?;
-    let Prepared {
-        shared,
-        workers,
-        driving,
-    } = prepare(alloc, plan, waves, roster.loops)?;
-    let done = Items::new(alloc).into_room(shared.seating.loops() as usize + 1)?;
-    let (starts, adopt) = (roster.starts, roster.adopt);
-    let EndedCells {
-        done,
-        drivers,
-        taken,
-    } = run(
-        rt,
-        gate,
-        &shared,
-        starts,
-        adopt,
-        workers,
-        LeadState { driving, done },
-        places,
-        ticker,
-    );
-    let ended = EndedRun::new(shared.boards, drivers, done, rooms);
-    let (outcome, closed) = finish_run(alloc, plan, waves, ended);
-    Ok((outcome, closed, taken))
+    let (outcome, closed, counts) = run_stealing_counted(
+        rt, alloc, plan, waves, roster, gate, ticker,
+    )?;
+    Ok((outcome, closed, counts.taken))
 }
 
 /// Runs a plan on boards, one an epoch, by the caller's thread, which drives, and by `loops`

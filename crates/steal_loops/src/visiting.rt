@@ -11,6 +11,7 @@ ghost use Rattle.steal_loops.specs.working.Visits.{HasVisited};
 
 use crate::cell_steps::{Step, step_cell};
 use crate::claimant::Claimant;
+use crate::counts::Hint;
 use crate::shared::Shared;
 use data_loop::LoopState;
 use pw_outside::Gate;
@@ -98,8 +99,8 @@ pub(crate) fn advance_unless_ended<G: Gate>(
 
 /// One try of a cell: where it is at home, one step of it, after which it is put back. What it
 /// woke is sent, but for the first node that has a cell: the thread keeps that, to visit its cell
-/// next. One that is found at its end is noted, and not tried again. It may wait where it sends.
-/// Takes no memory.
+/// next. One that is found at its end is noted, and not tried again. A step is counted by the hint
+/// that led to the cell. It may wait where it sends. Takes no memory.
 /// Condition: there is such a cell.
 pub(crate) fn visit<R: Wait, G: Gate>(
     rt: &R,
@@ -107,6 +108,7 @@ pub(crate) fn visit<R: Wait, G: Gate>(
     shared: &Shared,
     claimant: &mut Claimant,
     cell: u32,
+    hint: Hint,
 ) -> Visited
     requires cells { AreCells shared.now }
     requires claimant { IsClaimant shared.now claimant.old }
@@ -127,6 +129,7 @@ pub(crate) fn visit<R: Wait, G: Gate>(
     shared.shelf.put_back(&mut claimant.seat, cell, state);
     match stepped {
         Some(step) => {
+            claimant.hints.note(hint);
             shared.signs.give_up(claimant.kept);
             let (kept, others) = shared.signs.split(woke);
             claimant.kept = kept;

@@ -5,6 +5,7 @@ ghost use Rattle.steal_loops.specs.working.Cells.{AreCells, HaveFinished};
 ghost use Rattle.steal_loops.specs.working.Claimants.{IsClaimant, IsWorker};
 
 use crate::claimant::{Claimant, are_all};
+use crate::counts::Hint;
 use crate::ready::{visit_kept, visit_signed, visit_some};
 use crate::rounds::visit_next;
 use crate::shared::Shared;
@@ -28,7 +29,7 @@ fn visit_given<R: Wait, G: Gate>(rt: &R, gate: &G, shared: &Shared, claimant: &m
     if !shared.signs.take(node) {
         return true;
     }
-    visit_signed(rt, gate, shared, claimant, node)
+    visit_signed(rt, gate, shared, claimant, node, Hint::Given)
 }
 
 // One round: of the node that the worker keeps, else of the oldest number in its queue, else of

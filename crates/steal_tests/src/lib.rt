@@ -3,6 +3,8 @@
 #![tactic(auto)]
 
 #[cfg(test)]
+mod hints;
+#[cfg(test)]
 mod meeting;
 #[cfg(test)]
 mod runs;

@@ -10,7 +10,7 @@ use Rattle.graph_run.proofs.PlanRunLemmas.{shapes_are, have_ended, expects, no_c
 use Rattle.graph_run.proofs.RunStatesLemmas.{run_looked}
 use Rattle.steal_loops.proofs.DoneLemmas.{can_start, can_lead, done_of}
 use Rattle.steal_loops.proofs.SendLemmas.{claimant_send, shared_sync}
-use Rattle.steal_loops.proofs.stealing_run.run_stealing_with.Goals as goal
+use Rattle.steal_loops.proofs.stealing_run.run_stealing_counted.Goals as goal
 
 pub run-done-requires-send-M : goal.run-done-requires-send-M
 run-done-requires-send-M g c κs within = search (sendable, claimant_send) depth 30
