@@ -29,7 +29,7 @@ const RATE: Held<'static> = Held::Words(&[32, 15, 262147, 3, 65539, 0, 4, 4, 480
 /// The same of object type 0x40002.
 const OTHER: Held<'static> = Held::Words(&[32, 15, 262146, 3, 65539, 0, 4, 4, 48000, 0]);
 
-/// A format with the mandatory key 65541 alone.
+/// A format with the mandatory key 65541 only.
 const MANDATORY: Held<'static> = Held::Words(&[32, 15, 262147, 3, 65541, 8, 4, 4, 2, 0]);
 
 /// A format whose key 65537 has a Choice of kind Flags, with the value 1.

@@ -1,5 +1,5 @@
 //! Tests of the commands that run no graph, `dump`, `filter`, `automate` and `check`, of words that
-//! are no command line, of the sentences that statuses are told in, of the notes on what was
+//! are no command line, of the sentences for statuses, of the notes on what was
 //! accepted, and of the program with both its outputs, over files and outputs in memory. There is
 //! nothing else here.
 #![tactic(auto)]

@@ -676,7 +676,7 @@ fn each_fault_of_a_file_has_its_sentence(rt: HostRuntime) {
     assert_eq!(rt; said_unlike(rt.alloc(), FILES), None);
 }
 
-// The words of all commands, behind what is said of a word.
+// The words of all commands, after what is said of a word.
 const SYNOPSIS: &'static [u8] = b"usage: pipegraph run SCRIPT [--loops N] [--ticks N] \
     [--trace] [--steal]\n\
     \x20      pipegraph dump FILE\n\

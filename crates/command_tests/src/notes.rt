@@ -69,7 +69,8 @@ const SINKS: &'static [Noted] = &[
     Noted {
         script: Some(b"sink o o.wav\nsink p o.wav\nsink q q.wav\nsink r o.wav\nsink s s.wav\n"),
         told: Some(b"wrote o 4\nwrote p 4\nwrote q 4\nunused r\nunused s\n"),
-        notes: b"pipegraph: t.graph:1: \"o.wav\" is written by a later sink too, whose frames stand\n\
+        notes: b"pipegraph: t.graph:1: \"o.wav\" is written by a later sink too, \
+            whose frames stand\n\
             pipegraph: t.graph:4: \"r\" had no format at the end, \
             so it does not write \"o.wav\", which another sink writes\n\
             pipegraph: t.graph:5: \"s\" had no format at the end, so it does not write \"s.wav\"\n",
@@ -78,7 +79,8 @@ const SINKS: &'static [Noted] = &[
     Noted {
         script: Some(b"sink o v.wav\nsource v v.wav\nsink p v.wav\nsink q v.wav\ncycles 2\n"),
         told: Some(b"wrote o 4\nwrote p 8\nunused q\n"),
-        notes: b"pipegraph: t.graph:1: \"v.wav\" is written by a later sink too, whose frames stand\n\
+        notes: b"pipegraph: t.graph:1: \"v.wav\" is written by a later sink too, \
+            whose frames stand\n\
             pipegraph: t.graph:1: \"v.wav\" is a source's file too, and was overwritten\n\
             pipegraph: t.graph:3: \"v.wav\" is a source's file too, and was overwritten\n\
             pipegraph: t.graph:4: \"q\" had no format at the end, \
@@ -103,8 +105,8 @@ const EMPTY: &'static [Noted] = &[
     Noted {
         script: Some(b"sink o o.wav\nmeter m\n\tdrain\r\n"),
         told: Some(b"wrote o 0\npeak m 0\n"),
-        notes: b"pipegraph: t.graph:1: \"o\" has no frames, so what it writes to \"o.wav\" is an empty \
-            WAV file: it was active in no cycle since it got its format; \
+        notes: b"pipegraph: t.graph:1: \"o\" has no frames, so what it writes to \"o.wav\" \
+            is an empty WAV file: it was active in no cycle since it got its format; \
             drain goes on only while an active source has frames left; \
             groups gives each linked part a driver of its own\n",
         ..RUN
@@ -112,8 +114,8 @@ const EMPTY: &'static [Noted] = &[
     Noted {
         script: Some(b"sink o o.wav\nmeter m\nsink p p.wav\ndrain\ncycles 3\n"),
         told: Some(b"wrote o 0\npeak m 0\nwrote p 10\n"),
-        notes: b"pipegraph: t.graph:1: \"o\" has no frames, so what it writes to \"o.wav\" is an empty \
-            WAV file: it was active in no cycle since it got its format; \
+        notes: b"pipegraph: t.graph:1: \"o\" has no frames, so what it writes to \"o.wav\" \
+            is an empty WAV file: it was active in no cycle since it got its format; \
             groups gives each linked part a driver of its own\n",
         ..RUN
     },
@@ -121,8 +123,8 @@ const EMPTY: &'static [Noted] = &[
         command: "groups t.graph",
         script: Some(b"sink o o.wav\nsink p p.wav\ncycles 3\n"),
         told: Some(b"wrote o 0\nwrote p 0\n"),
-        notes: b"pipegraph: t.graph:1: \"o\" has no frames, so what it writes to \"o.wav\" is an empty \
-            WAV file: it was active in no cycle since it got its format\n\
+        notes: b"pipegraph: t.graph:1: \"o\" has no frames, so what it writes to \"o.wav\" \
+            is an empty WAV file: it was active in no cycle since it got its format\n\
             pipegraph: t.graph:2: \"p\" has no frames, so what it writes to \"p.wav\" is an empty \
             WAV file: it was active in no cycle since it got its format\n",
         ..RUN
@@ -131,8 +133,8 @@ const EMPTY: &'static [Noted] = &[
         command: "groups t.graph",
         script: Some(b"sink o o.wav\ndrain\n"),
         told: Some(b"wrote o 0\n"),
-        notes: b"pipegraph: t.graph:1: \"o\" has no frames, so what it writes to \"o.wav\" is an empty \
-            WAV file: it was active in no cycle since it got its format; \
+        notes: b"pipegraph: t.graph:1: \"o\" has no frames, so what it writes to \"o.wav\" \
+            is an empty WAV file: it was active in no cycle since it got its format; \
             drain goes on only while an active source has frames left\n",
         ..RUN
     },

@@ -251,7 +251,7 @@ const ARGUMENTS: &'static [Asked] = &[
 ];
 
 /// Lines that pass the limit of events. A cycle has five with the built-in driver, and two more for
-/// each node: 4194304 are 838860 times 5 and four, 599186 times 7 and two, 381300 times 11 and four.
+/// each node: 4194304 are 838860 times 5 and 4, 599186 times 7 and 2, 381300 times 11 and 4.
 const LIMITS: &'static [Asked] = &[
     Asked {
         script: b"cycles 838861\n",
@@ -494,7 +494,8 @@ const SINKS: &'static [Asked] = &[
         ..RUN
     },
     Asked {
-        script: b"quantum 2\nsource s s.wav\nsink o o.wav\nsink p o.wav\nlink s.out p.in\ncycles 2\n",
+        script: b"quantum 2\nsource s s.wav\nsink o o.wav\nsink p o.wav\nlink s.out p.in\n\
+            cycles 2\n",
         code: 0,
         out: b"link s.out p.in 48000 1 2\nunused o\nwrote p 4\n",
         said: b"s.graph:3: \"o\" had no format at the end, so it does not write \"o.wav\", \

@@ -10,7 +10,7 @@ const FORMAT: [u8; 40] = [
     0, 0, 0x80, 0xbb, 0, 0, 0, 0, 0, 0,
 ];
 
-/// The Int 5, with zeros behind it.
+/// The Int 5, followed by zeros.
 const INT: Row<'static> = Row {
     line: "dump f.pod",
     files: &[("f.pod", Held::Words(&[4, 4, 5, 0]))],

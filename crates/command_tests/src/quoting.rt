@@ -9,7 +9,7 @@ use std::alloc::Global;
 /// A script whose second line names no node, and whose third and fourth have an end that does not.
 const VOX: &'static [u8] = b"gain a 1\non vox\nlink a.out vox.in\nlink vox.out a.in\ngain vox 1\n";
 
-// Whether a status of these words is told so, where the run read that script.
+// Whether a status of these words is explained so, where the run read that script.
 fn is_explained(alloc: Global, command: &str, status: Status, said: &[u8]) -> bool {
     let Ok(words) = words_of(alloc, command) else {
         return false;

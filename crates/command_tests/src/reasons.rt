@@ -205,17 +205,23 @@ fn a_node_is_named_by_the_script_or_by_its_number(rt: HostRuntime) {
         (
             Some(METER),
             3,
-            b"pipegraph: t.txt:12: its node waits for \"q\", which has not finished in this cycle\n".as_slice(),
+            b"pipegraph: t.txt:12: its node waits for \"q\", \
+                which has not finished in this cycle\n"
+                .as_slice(),
         ),
         (
             Some(METER),
             4,
-            b"pipegraph: t.txt:12: its node waits for node 4, which has not finished in this cycle\n".as_slice(),
+            b"pipegraph: t.txt:12: its node waits for node 4, \
+                which has not finished in this cycle\n"
+                .as_slice(),
         ),
         (
             None,
             0,
-            b"pipegraph: t.txt:12: its node waits for node 0, which has not finished in this cycle\n".as_slice(),
+            b"pipegraph: t.txt:12: its node waits for node 0, \
+                which has not finished in this cycle\n"
+                .as_slice(),
         ),
         (
             None,

@@ -44,7 +44,8 @@ cause_text script (C.WaitsFor n) = waits_for script n
 cause_text script C.NotStarted = codes "its node has not started in this cycle"
 cause_text script C.Finished = codes "its node has finished in this cycle already"
 cause_text script C.Ticked = codes "a tick has come in this cycle already"
-cause_text script C.DriverStarted = codes "a tick comes before the driver starts, and it has started"
+cause_text script C.DriverStarted =
+    codes "a tick comes before the driver starts, and it has started"
 cause_text script (C.NotLate n) = not_late script n
 
 -- THE NOTE on a trace that is no legal history

@@ -1,4 +1,4 @@
--- Laws of `specs/Asking.antt`: a ticker keeps its period, and what is told between its counts.
+-- Laws of `specs/Asking.antt`: a ticker keeps its period, and what is said of it between its counts.
 use Rattle.std.proofs.Common.{◌≡◌, ◌∙◌, ◌==◌, ◌-◌, ◌^◌, ℕ, Bool, true, false, refl, ap, subst}
 use Rattle.std.proofs.Math.Logic.{∥∥₁_elim, ∥∥₁_map}
 use Rattle.std.proofs.Props.{props}
@@ -27,7 +27,7 @@ tied_asked every after n tied next =
 pub tied_period : (m n : ℕ) → ∥ m ≡ n ∥₁ → m ≡ n
 tied_period m n tied = ∥∥₁_elim tied (Prim.hlevel props) (λ (e : m ≡ n). e)
 
--- what is told between counts is told between equal ones
+-- what is said between counts is said between equal ones
 pub told_as : (words : Words) (before now : Outside) (a a' b b' : ℕ) (status : Status) → a ≡ a' → b ≡ b'
     → IsToldOf words before now a b status → IsToldOf words before now a' b' status
 told_as words before now a a' b b' status first second told =

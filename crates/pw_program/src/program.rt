@@ -68,8 +68,8 @@ pub fn run_program<R: Threads + Wait + Sync, F: Files, O: Sink, E: Sink>(
     out: O,
     errors: &mut E,
 ) -> Ended<F, O>
-    // The answer of the top call: files and output by the status, where they are told, and the
-    // checks of the ticker that the words ask for.
+    // The answer of the top call: files and output by the status, where they are reported, and
+    // the checks of the ticker that the words ask for.
     ensures told { IsToldOf (map string_bytes words.now) (outside F.Files O.Sink files out)
         (outside F.Files O.Sink result.files result.out) 0 (checks_of result.ticker) result.status }
     ensures asked { period_of result.ticker ≡ ticks_in (command_of (map string_bytes words.now)) }
