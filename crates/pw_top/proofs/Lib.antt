@@ -4,11 +4,13 @@ pub mod AllowedLemmas
 pub mod AutomateLemmas
 pub mod CommandLineLemmas
 pub mod FormatFileLemmas
+pub mod FoundLemmas
 pub mod GroupsLemmas
 pub mod HeadlineLemmas
 pub mod JoinedLemmas
 pub mod LoadsLemmas
 pub mod OneAnswerLemmas
+pub mod OneFoundLemmas
 pub mod OneGroupsLemmas
 pub mod OneLineLemmas
 pub mod OneLoadsLemmas

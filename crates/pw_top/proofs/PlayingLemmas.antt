@@ -59,7 +59,7 @@ plays_not P h status e n =
     record { answer = e.answer; allowed = e.allowed; ends = e.ends; played = nothing_then e.answer.outcome h status n }
 
 -- BY THE STATUS: it is that of what was prepared or delivered, or memory was short for its line
-either_end : (b : Bool) (mid status : Status) (A B C : Type 0) → MatchBool b (((status ≡ mid) × A) ⊎ ((status ≡ S.Memory) × B)) ((status ≡ mid) × C)
+pub either_end : (b : Bool) (mid status : Status) (A B C : Type 0) → MatchBool b (((status ≡ mid) × A) ⊎ ((status ≡ S.Memory) × B)) ((status ≡ mid) × C)
     → (status ≡ mid) ⊎ (status ≡ S.Memory)
 either_end true mid status A B C (inl x) = inl x.0
 either_end true mid status A B C (inr x) = inr x.0

@@ -9,6 +9,7 @@ pub mod FaultCauses
 pub mod Filter
 pub mod Following
 pub mod FormatFile
+pub mod Found
 pub mod Groups
 pub mod GroupsWork
 pub mod Headline

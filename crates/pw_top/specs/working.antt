@@ -3,3 +3,4 @@
 pub mod Delivery
 pub mod Ending
 pub mod Preparing
+pub mod Seen

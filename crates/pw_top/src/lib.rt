@@ -4,6 +4,7 @@
 mod commands;
 mod delivering;
 mod format_file;
+mod found;
 mod inputs;
 mod joined;
 mod loaded_script;
@@ -29,9 +30,10 @@ mod usage;
 mod wave_file;
 mod work;
 
+pub use found::{Found, What};
 pub use one_answer::order_shows_in_events_alone;
 pub use parts_alone::parts_store_as_alone;
 pub use status::{PodWhy, Status};
 pub use surely::run_surely;
-pub use top::{Report, run_words};
+pub use top::{Ran, Report, run_words, run_words_with};
 pub use usage::ticks_of;

@@ -1,16 +1,18 @@
 //! The top call.
-ghost use Rattle.std.specs.Prelude.{◌≤◌, map, string_bytes};
+ghost use Rattle.std.specs.Prelude.{◌≡◌, ◌≤◌, map, string_bytes, OnOk};
 ghost use Rattle.pw_top.specs.working.Ending.{CommandCause, PrepareCause, IsDeliverable};
 ghost use Rattle.pw_top.specs.Playing.{happened, HasNothing, TellsPlay};
 ghost use Rattle.pw_top.specs.working.Preparing.{LoadsOnly};
 ghost use Rattle.pw_top.specs.Usage.{command_of, HasFewLoops};
 ghost use Rattle.pw_top.specs.CommandLine.{IsAnswerTo, IsAnswer};
 ghost use Rattle.pw_top.specs.FaultCauses.{Caused, IsUsage};
+ghost use Rattle.pw_top.specs.Found.{HasFoundNothing, IsFoundBy, IsFoundOf, IsFound, found_after};
 ghost use Rattle.pw_top.specs.Following.{status_of};
 ghost use Rattle.pw_top.specs.Headline.{IsTold, IsComplete, reported};
 ghost use Rattle.pw_top.specs.Outside.{outside};
 
 use crate::delivering::{deliver, end_line};
+use crate::found::{Found, What};
 use crate::played::Played;
 use crate::preparing::Prepare;
 use crate::status::Status;
@@ -26,7 +28,7 @@ use std::thread::Threads;
 
 impl CommandLine {
     // Makes the loads of the command in order, and its run. What happened in it is left in
-    // `played`.
+    // `played`, and what was found in `found`.
     fn prepare<R: Threads + Wait + Sync, F: Files, G: Gate + Sync, K: Ticker>(
         self,
         rt: &R,
@@ -35,14 +37,17 @@ impl CommandLine {
         gate: &G,
         ticker: &mut K,
         played: &mut Played,
+        found: &mut Found,
     ) -> Result<Work, Status>
         requires few { HasFewLoops self }
         requires none { HasNothing played.old }
+        requires unfound { HasFoundNothing found.old }
         ensures files { LoadsOnly (F.held files.old) (F.held files.new) (F.load_faults files.old)
             (F.load_faults files.new) (F.store_faults files.old) (F.store_faults files.new) }
         ensures told { TellsPlay (F.held files.old) (IsAnswerTo self
             (happened played.new (K.ticks ticker.old) (K.ticks ticker.new)))
             (happened played.new (K.ticks ticker.old) (K.ticks ticker.new)) result }
+        ensures found { OnOk result (IsFoundBy self (F.held files.old) found.new) }
         ensures cause { CommandCause IsDeliverable (F.load_faults files.old)
             (F.load_faults files.new) result }
         ensures later { K.ticks ticker.old ≤ K.ticks ticker.new }
@@ -52,7 +57,7 @@ impl CommandLine {
             CommandLine::Dump(command) => command.prepare(alloc, files),
             CommandLine::Filter(command) => command.prepare(alloc, files),
             CommandLine::Automate(command) => command.prepare(alloc, files),
-            CommandLine::Check(command) => command.prepare(alloc, files),
+            CommandLine::Check(command) => command.find(alloc, files, found),
             CommandLine::Soak(command) => command.play(rt, alloc, gate, ticker, played),
             CommandLine::Groups(command) => command.play(rt, alloc, files, gate, played),
         }
@@ -68,13 +73,17 @@ fn prepare_words<R: Threads + Wait + Sync, F: Files, G: Gate + Sync, K: Ticker>(
     gate: &G,
     ticker: &mut K,
     played: &mut Played,
+    found: &mut Found,
 ) -> Result<Work, Status>
     requires none { HasNothing played.old }
+    requires unfound { HasFoundNothing found.old }
     ensures files { LoadsOnly (F.held files.old) (F.held files.new) (F.load_faults files.old)
         (F.load_faults files.new) (F.store_faults files.old) (F.store_faults files.new) }
     ensures told { TellsPlay (F.held files.old) (IsAnswer (map string_bytes words.now)
         (happened played.new (K.ticks ticker.old) (K.ticks ticker.new)))
         (happened played.new (K.ticks ticker.old) (K.ticks ticker.new)) result }
+    ensures found { OnOk result
+        (IsFoundOf (command_of (map string_bytes words.now)) (F.held files.old) found.new) }
     ensures cause { PrepareCause IsDeliverable (F.load_faults files.old)
         (F.load_faults files.new) result }
     ensures usage { IsUsage (command_of (map string_bytes words.now)) (status_of result) }
@@ -82,7 +91,19 @@ fn prepare_words<R: Threads + Wait + Sync, F: Files, G: Gate + Sync, K: Ticker>(
 {
     match read_words(alloc, words) {
         Err(status) => Err(status),
-        Ok(command) => command.prepare(rt, alloc, files, gate, ticker, played),
+        Ok(command) => command.prepare(rt, alloc, files, gate, ticker, played, found),
+    }
+}
+
+// What is left of what was found: all of it where all was done, and else nothing.
+fn found_after(status: Status, found: Found) -> Found
+    ensures { result ≡ found_after status found }
+{
+    match status {
+        Status::Ok => found,
+        _ => Found {
+            what: What::Nothing,
+        },
     }
 }
 
@@ -95,6 +116,72 @@ pub struct Report {
     pub history: Items<Event>,
     /// One closed board an epoch, in order.
     pub closed: Items<Closed>,
+}
+
+/// A report, and what the run found beside it.
+#[derive(Drop)]
+pub struct Ran {
+    pub report: Report,
+    pub found: Found,
+}
+
+/// Does what the words of a command line ask for, as `run_words` does, and answers besides what it
+/// found: where all was done, of `check` the reason for which the events of the trace are no legal
+/// history of the script's plan, and of each other command nothing. Takes no memory for it, and
+/// follows a trace once. It may wait for the loops.
+pub fn run_words_with<R: Threads + Wait + Sync, F: Files, O: Sink, G: Gate + Sync, K: Ticker>(
+    rt: &R,
+    alloc: Global,
+    words: &[String],
+    files: &mut F,
+    out: &mut O,
+    gate: &G,
+    ticker: &mut K,
+) -> Ran
+    // The report is that of `run_words`.
+    ensures told { IsTold (map string_bytes words.now)
+        (outside F.Files O.Sink files.old out.old) (outside F.Files O.Sink files.new out.new)
+        (reported result.report (K.ticks ticker.old) (K.ticks ticker.new)) result.report.status }
+    ensures cause { Caused (outside F.Files O.Sink files.old out.old)
+        (outside F.Files O.Sink files.new out.new) result.report.status }
+    ensures usage { IsUsage (command_of (map string_bytes words.now)) result.report.status }
+    ensures complete { IsComplete (map string_bytes words.now)
+        (outside F.Files O.Sink files.old out.old) (outside F.Files O.Sink files.new out.new)
+        (reported result.report (K.ticks ticker.old) (K.ticks ticker.new)) result.report.status }
+    ensures later { K.ticks ticker.old ≤ K.ticks ticker.new }
+
+    // What was found, by the files as they were; nothing where not all was done.
+    ensures found { IsFound (map string_bytes words.now) (F.held files.old)
+        result.report.status result.found }
+{
+    let mut played = Played {
+        history: Items::new(alloc),
+        closed: Items::new(alloc),
+    };
+    let mut found = Found {
+        what: What::Nothing,
+    };
+    let made = prepare_words(
+        rt,
+        alloc,
+        words,
+        files,
+        gate,
+        ticker,
+        &mut played,
+        &mut found,
+    );
+    let delivered = deliver(alloc, files, out, &made);
+    let status = end_line(alloc, out, delivered);
+    let Played { history, closed } = played;
+    Ran {
+        report: Report {
+            status,
+            history,
+            closed,
+        },
+        found: found_after(status, found),
+    }
 }
 
 /// Does what the words of a command line ask for: loads, then stores, then the text, or the line of
@@ -138,17 +225,9 @@ pub fn run_words<R: Threads + Wait + Sync, F: Files, O: Sink, G: Gate + Sync, K:
         (reported result (K.ticks ticker.old) (K.ticks ticker.new)) result.status }
     ensures later { K.ticks ticker.old ≤ K.ticks ticker.new }
 {
-    let mut played = Played {
-        history: Items::new(alloc),
-        closed: Items::new(alloc),
-    };
-    let made = prepare_words(rt, alloc, words, files, gate, ticker, &mut played);
-    let delivered = deliver(alloc, files, out, &made);
-    let status = end_line(alloc, out, delivered);
-    let Played { history, closed } = played;
-    Report {
-        status,
-        history,
-        closed,
-    }
+    let Ran {
+        report,
+        found: _found,
+    } = run_words_with(rt, alloc, words, files, out, gate, ticker);
+    report
 }

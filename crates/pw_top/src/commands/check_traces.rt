@@ -1,25 +1,30 @@
 //! `check SCRIPT TRACE`: the script is loaded, read and planned as for `run`, then the trace is
-//! loaded, and what is found of it is put as text.
+//! loaded, and what is found of it is put as text. The trace is read and followed once: the verdict
+//! is the place of the reason.
 #![tactic(auto, using(crate::proofs::AllowedLemmas::parts))]
 
-ghost use Rattle.std.specs.Prelude.{◌≡◌, ◌≤◌, length, IfOk};
+ghost use Rattle.std.specs.Prelude.{◌≡◌, ◌+◌, ◌<◌, ◌≤◌, ◌^◌, map, length, IsSome, IfOk, OnOk};
 ghost use Rattle.pw_graph.specs.SoundPlan.{IsSoundPlan};
+ghost use Rattle.pw_outside.specs.Files.{names_in};
 ghost use Rattle.cycle_trace.specs.TraceReading.{AreNames};
-ghost use Rattle.pw_top.specs.Check.{trace_bytes_limit, finding_text, check_work, ChecksTrace, ChecksPlan};
+ghost use Rattle.pw_top.specs.Check.{trace_bytes_limit, finding_text, check_work, ChecksTrace, ChecksPlan, IsCheckAnswer};
+ghost use Rattle.pw_top.specs.Found.{IsFoundIn, IsFoundUnder, IsFoundByCheck};
 ghost use Rattle.pw_top.specs.working.Ending.{Ends, CommandCause, IsDeliverable};
 ghost use Rattle.pw_top.specs.PlannedWork.{IsPlayable};
 ghost use Rattle.pw_top.specs.working.Preparing.{LoadsOnly, Tells};
+ghost use Rattle.pw_top.specs.working.Seen.{IsSeenOn, verdict_by, finding_by, what_by};
 
+use crate::found::{Found, What};
 use crate::loading::load_step;
 use crate::planned::{Planned, plan_file};
-use crate::preparing::Prepare;
 use crate::status::Status;
 use crate::work::Work;
+use cycle_trace::{TraceFault, read_events};
 use pw_graph::Plan;
 use pw_lists::{Items, Memory, Text, Which, append_decimal};
 use pw_outside::Files;
 use std::alloc::Global;
-use trace_check::{Finding, Verdict, check_trace};
+use trace_check::{Finding, Reason, Verdict, reason_of};
 
 /// The place of the trace, which is no line of a script.
 const TRACE_PLACE: u32 = u32::MAX;
@@ -34,16 +39,83 @@ pub struct CheckTrace {
     pub trace: Text,
 }
 
-impl Prepare for CheckTrace {
-    ghost use Rattle.pw_top.specs.Check.{IsCheckAnswer};
-
-    ghost answers = { λ c names. IsCheckAnswer names c.script c.trace };
-
-    fn prepare<F: Files>(self, alloc: Global, files: &mut F) -> Result<Work, Status> {
+impl CheckTrace {
+    /// Makes the loads in order. What is found of the trace is left in `found`. It stores and puts
+    /// nothing.
+    pub fn find<F: Files>(
+        self,
+        alloc: Global,
+        files: &mut F,
+        found: &mut Found,
+    ) -> Result<Work, Status>
+        ensures files { LoadsOnly (F.held files.old) (F.held files.new) (F.load_faults files.old)
+            (F.load_faults files.new) (F.store_faults files.old) (F.store_faults files.new) }
+        ensures told { Tells (F.held files.old)
+            (λ names. IsCheckAnswer names self.script self.trace) result }
+        ensures found { OnOk result (IsSome (F.held files.old)
+            → IsFoundByCheck (names_in (F.held files.old)) self.script self.trace found.new.what) }
+        ensures cause { CommandCause IsDeliverable (F.load_faults files.old)
+            (F.load_faults files.new) result }
+    {
         match plan_file(alloc, files, &self.script) {
             Err(status) => Err(status),
-            Ok(planned) => check_plan(alloc, files, &planned, &self.trace),
+            Ok(planned) => check_plan(alloc, files, &planned, &self.trace, found),
         }
+    }
+}
+
+/// What is seen of a trace: its first line that is of no event, or why its events are no legal
+/// history, if they are none.
+#[derive(Clone, Copy, Debug, Drop)]
+pub(crate) enum Seen {
+    Line(u64),
+    Events(Option<Reason>),
+}
+
+// Reads a trace, and follows its events.
+fn see(alloc: Global, plan: &Plan, names: &Items<Text>, bytes: &[u8]) -> Result<Seen, Memory>
+    requires sound { IsSoundPlan plan.now }
+    requires names { AreNames names.now }
+    requires few { length bytes.now + 1 < 2 ^ 32 }
+    ensures { IfOk result (IsSeenOn names.now (map (λ e. e.shape) plan.now.epochs) bytes.now) }
+{
+    match read_events(alloc, names, bytes) {
+        Err(TraceFault::Line(number)) => Ok(Seen::Line(number)),
+        Err(TraceFault::Memory) => Err(Memory),
+        Ok(events) => match reason_of(alloc, plan, &events) {
+            Ok(reason) => Ok(Seen::Events(reason)),
+            Err(memory) => Err(memory),
+        },
+    }
+}
+
+// The verdict, which has the place of the reason.
+fn verdict_by(reason: Option<Reason>) -> Verdict
+    ensures { result ≡ verdict_by reason }
+{
+    match reason {
+        None => Verdict::Legal,
+        Some(why) => Verdict::Illegal { at: why.at },
+    }
+}
+
+// What the text says of it.
+fn finding_by(seen: Seen) -> Finding
+    ensures { result ≡ finding_by seen }
+{
+    match seen {
+        Seen::Line(number) => Finding::Line(number),
+        Seen::Events(reason) => Finding::Events(verdict_by(reason)),
+    }
+}
+
+// What is said of it beside the text.
+fn what_by(seen: Seen) -> What
+    ensures { result ≡ what_by seen }
+{
+    match seen {
+        Seen::Line(_number) => What::Nothing,
+        Seen::Events(reason) => What::Check { reason },
     }
 }
 
@@ -84,19 +156,25 @@ fn check_bytes(
     names: &Items<Text>,
     plan: &Plan,
     bytes: &Items<u8>,
+    found: &mut Found,
 ) -> Result<Work, Status>
     requires sound { IsSoundPlan plan.now }
     requires names { AreNames names.now }
     requires small { length bytes.now ≤ trace_bytes_limit }
     ensures done { Ends (ChecksTrace names.now plan.now bytes.now) result }
+    ensures found { OnOk result (IsFoundIn names.now (map (λ e. e.shape) plan.now.epochs)
+        bytes.now found.new.what) }
     ensures cause { CommandCause IsDeliverable 0 0 result }
 {
-    match check_trace(alloc, plan, names, bytes.as_slice()) {
+    match see(alloc, plan, names, bytes.as_slice()) {
         Err(_memory) => Err(Status::Memory),
-        Ok(found) => match check_work(alloc, found) {
-            Err(_memory) => Err(Status::Memory),
-            Ok(work) => Ok(work),
-        },
+        Ok(seen) => {
+            found.what = what_by(seen);
+            match check_work(alloc, finding_by(seen)) {
+                Err(_memory) => Err(Status::Memory),
+                Ok(work) => Ok(work),
+            }
+        }
     }
 }
 
@@ -106,6 +184,7 @@ fn check_plan<F: Files>(
     files: &mut F,
     planned: &Planned,
     trace: &Text,
+    found: &mut Found,
 ) -> Result<Work, Status>
     requires planned { IsPlayable planned.now }
     requires names { AreNames planned.now.script.names }
@@ -113,6 +192,8 @@ fn check_plan<F: Files>(
         (F.load_faults files.new) (F.store_faults files.old) (F.store_faults files.new) }
     ensures told { Tells (F.held files.old)
         (λ names. ChecksPlan names trace.now planned.now) result }
+    ensures found { OnOk result (IsSome (F.held files.old)
+        → IsFoundUnder (names_in (F.held files.old)) trace.now planned.now found.new.what) }
     ensures cause { CommandCause IsDeliverable (F.load_faults files.old)
         (F.load_faults files.new) result }
 {
@@ -125,6 +206,6 @@ fn check_plan<F: Files>(
         Which::TraceBytes,
     ) {
         Err(status) => Err(status),
-        Ok(bytes) => check_bytes(alloc, &planned.script.names, &planned.plan, &bytes),
+        Ok(bytes) => check_bytes(alloc, &planned.script.names, &planned.plan, &bytes, found),
     }
 }

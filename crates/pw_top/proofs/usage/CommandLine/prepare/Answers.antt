@@ -1,4 +1,4 @@
--- Commands other than `run` and `soak` run nothing.
+-- Commands other than `run`, `soak` and `groups` run nothing, and those other than `check` find nothing.
 use Rattle.std.proofs.Common.{ℕ}
 use Rattle.std.specs.Prelude.{Result, Ok, Err}
 use Rattle.pw_outside.specs.Files.{names_in}
@@ -10,7 +10,9 @@ use Rattle.pw_top.specs.Dump.{IsDumpAnswer}
 use Rattle.pw_top.specs.Filter.{IsFilterAnswer}
 use Rattle.pw_top.specs.Automate.{IsAutomateAnswer}
 use Rattle.pw_top.specs.Check.{IsCheckAnswer}
+use Rattle.pw_top.specs.Found.{HasFoundNothing}
 use Rattle.pw_top.proofs.AllowedLemmas.{quiet_cause}
+use Rattle.pw_top.proofs.FoundLemmas.{ok_always}
 use Rattle.pw_top.proofs.PlayingLemmas.{plays_idly}
 use Rattle.pw_top.proofs.usage.CommandLine.prepare.Goals as goal
 
@@ -31,8 +33,8 @@ returns-in-Automate-clause-told g c = λ h. rw c.in-Automate.is (plays_idly (IsA
 
 pub returns-in-Check-clause-told : goal.returns-in-Check-clause-told
 returns-in-Check-clause-told g c = λ h. rw c.in-Check.is (plays_idly (IsCheckAnswer (names_in (g.F.Files.held c.args.files.now)) c.in-Check.command.script c.in-Check.command.trace)
-    (happened c.args.played.now (g.K.Ticker.ticks c.args.ticker.now) (g.K.Ticker.ticks c.args.ticker.now)) c.prepare-in-Check.result
-    (c.prepare-in-Check.ensures.told h) c.requires.none)
+    (happened c.args.played.now (g.K.Ticker.ticks c.args.ticker.now) (g.K.Ticker.ticks c.args.ticker.now)) c.find.result
+    (c.find.ensures.told h) c.requires.none)
 
 -- a soak loads nothing
 quiet : (n : ℕ) (r : Result Work Status) → CommandCause IsDeliverable 0 0 r → CommandCause IsDeliverable n n r
@@ -41,3 +43,21 @@ quiet n (Err status) h = quiet_cause IsDeliverable IsDeliverable n status h
 
 pub returns-in-Soak-clause-cause : goal.returns-in-Soak-clause-cause
 returns-in-Soak-clause-cause g c = quiet _ c.play-in-Soak.result c.play-in-Soak.ensures.cause
+
+pub returns-in-Run-clause-found : goal.returns-in-Run-clause-found
+returns-in-Run-clause-found g c = rw c.in-Run.is (ok_always c.play.result (HasFoundNothing c.args.found.now) c.requires.unfound)
+
+pub returns-in-Dump-clause-found : goal.returns-in-Dump-clause-found
+returns-in-Dump-clause-found g c = rw c.in-Dump.is (ok_always c.prepare.result (HasFoundNothing c.args.found.now) c.requires.unfound)
+
+pub returns-in-Filter-clause-found : goal.returns-in-Filter-clause-found
+returns-in-Filter-clause-found g c = rw c.in-Filter.is (ok_always c.prepare-in-Filter.result (HasFoundNothing c.args.found.now) c.requires.unfound)
+
+pub returns-in-Automate-clause-found : goal.returns-in-Automate-clause-found
+returns-in-Automate-clause-found g c = rw c.in-Automate.is (ok_always c.prepare-in-Automate.result (HasFoundNothing c.args.found.now) c.requires.unfound)
+
+pub returns-in-Soak-clause-found : goal.returns-in-Soak-clause-found
+returns-in-Soak-clause-found g c = rw c.in-Soak.is (ok_always c.play-in-Soak.result (HasFoundNothing c.args.found.now) c.requires.unfound)
+
+pub returns-in-Groups-clause-found : goal.returns-in-Groups-clause-found
+returns-in-Groups-clause-found g c = rw c.in-Groups.is (ok_always c.play-in-Groups.result (HasFoundNothing c.args.found.now) c.requires.unfound)

@@ -1,10 +1,13 @@
-use Rattle.std.proofs.Common.{subst, rules}
+use Rattle.std.proofs.Common.{map, subst, sym, rules}
+use Rattle.std.specs.Prelude.{string_bytes}
 use Rattle.pw_top.specs.working.Delivery.{Delivered}
+use Rattle.pw_top.specs.Found.{IsFound}
 use Rattle.pw_top.specs.Outside.{outside}
 use Rattle.pw_top.specs.Playing.{happened}
+use Rattle.pw_top.proofs.FoundLemmas.{found_ends}
 use Rattle.pw_top.proofs.HeadlineLemmas.{run_follows, complete}
 use Rattle.pw_top.proofs.PlayingLemmas.{run_played}
-use Rattle.pw_top.proofs.top.run_words.Goals as goal
+use Rattle.pw_top.proofs.top.run_words_with.Goals as goal
 
 pub returns-clause-told : goal.returns-clause-told
 returns-clause-told g c = λ h.
@@ -37,3 +40,12 @@ returns-clause-complete g c = λ h none.
     let t = returns-clause-told g c h in
     let end = outside g.F.Files g.O.Sink c.deliver-delivered.new.files c.end_line-status.new.out in
     (t.0, t.1, complete t.0 _ end _ t.2 (returns-clause-cause g c) none)
+
+pub returns-clause-found : goal.returns-clause-found
+returns-clause-found g c =
+    let p = c.prepare_words-made.ensures in
+    let status = c.end_line-status.result in
+    subst (IsFound (map string_bytes c.args.words.now) (g.F.Files.held c.args.files.now) status) (sym c.found_after.ensures)
+    (found_ends _ _ _ _ _ _ _ _ _ _ _ _ (map string_bytes c.args.words.now) (g.F.Files.held c.args.files.now) c.prepare_words-made.new.found
+    c.prepare_words-made.result c.deliver-delivered.result status p.cause c.deliver-delivered.ensures.delivered
+    c.end_line-status.ensures.ends p.found)
