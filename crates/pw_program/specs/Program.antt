@@ -6,7 +6,9 @@ use Rattle.pw_outside.specs.declared.output.Sink as sink
 use Rattle.pw_outside.specs.Causes.{HasCause}
 use Rattle.pw_outside.specs.Files.{Held}
 use Rattle.pw_outside.specs.Output.{Given, IsPut}
+use Rattle.pw_top.specs.declared.found.Found.{Found}
 use Rattle.pw_top.specs.declared.status.Status.{Status}
+use Rattle.pw_top.specs.Found.{IsFound}
 use Rattle.pw_top.specs.Headline.{IsTold}
 use Rattle.pw_top.specs.Outside.{Outside}
 use Rattle.pw_top.specs.Playing.{Happened}
@@ -43,13 +45,16 @@ pub record IsSaid (text : List ℕ) (before now : ErrorOutput) (said : Result (U
   pub put : IsPut text before.given now.given said
   pub cause : HasCause before.faults now.faults said
 
--- THE SENTENCE of a status, or the notes, were put: by the words, by the bytes of the script that
--- was stored under its name before the run, and by the text that the run put, where these are at hand
+-- THE SENTENCE of a status, or the notes, were put: by the words, by what the run found, and by the
+-- bytes of the script that was stored under its name before the run and the text that the run put,
+-- where these are at hand
 pub record HasSaid (held : Held) (was_put : Option (List ℕ) → Type 0) (words : List (List ℕ))
     (status : Status) (before now : ErrorOutput) (answer : Result (Unit {0}) FileFail)
     : Type 0 where
+  pub found : Found
   pub script : Option (List ℕ)
   pub told : Option (List ℕ)
+  pub is_found : IsFound words held status found
   pub read : IsReadOf held (script_name words) script
   pub put : was_put told
-  pub said : IsSaid (explained status words script told) before now answer
+  pub said : IsSaid (explained status found words script told) before now answer

@@ -3,13 +3,14 @@
 use crate::asking::Asked;
 use pw_lists::Text;
 use pw_outside::FileFail;
-use pw_top::Status;
+use pw_top::{Found, Status};
 
-/// A run that was made: its status, the files and the output after it, the script that it loaded
-/// and the text that it put, where these are kept.
+/// A run that was made: its status and what it found, the files and the output after it, the script
+/// that it loaded and the text that it put, where these are kept.
 #[derive(Drop)]
-pub(crate) struct Ran<F, O> {
+pub(crate) struct Run<F, O> {
     pub status: Status,
+    pub found: Found,
     pub files: F,
     pub out: O,
     pub script: Option<Text>,

@@ -10,7 +10,7 @@ ghost use Rattle.pw_program.specs.Asking.{period_of, checks_of};
 ghost use Rattle.pw_program.specs.Program.{shown, IsToldOf, IsSaid, HasSaid};
 
 use crate::asking::Asked;
-use crate::ended::{Ended, Ran};
+use crate::ended::{Ended, Run};
 use crate::running::run_kept;
 use crate::telling::tell;
 use pw_outside::{Files, Sink};
@@ -23,7 +23,7 @@ use std::thread::Threads;
 fn finish<F: Files, O: Sink, E: Sink>(
     alloc: Global,
     words: &[String],
-    ran: Ran<F, O>,
+    ran: Run<F, O>,
     ticker: Asked,
     errors: &mut E,
 ) -> Ended<F, O>
@@ -32,17 +32,19 @@ fn finish<F: Files, O: Sink, E: Sink>(
     ensures status { result.status ≡ ran.status }
     ensures code { result.code ≡ status_number ran.status }
     ensures ticker { result.ticker ≡ ticker }
-    ensures said { IsSaid (explained ran.status (map string_bytes words.now) ran.script ran.told)
+    ensures said { IsSaid
+        (explained ran.status ran.found (map string_bytes words.now) ran.script ran.told)
         (shown E.Sink errors.old) (shown E.Sink errors.new) result.said }
 {
-    let Ran {
+    let Run {
         status,
+        found,
         files,
         out,
         script,
         told,
     } = ran;
-    let said = tell(alloc, words, &status, &script, &told, errors);
+    let said = tell(alloc, words, &status, &found, &script, &told, errors);
     Ended {
         status,
         code: status.number(),
@@ -56,10 +58,10 @@ fn finish<F: Files, O: Sink, E: Sink>(
 /// Does what the words of a command line ask for, puts the sentence of its status, or notes where
 /// all was done, on the error output, and answers the number that the program ends with; may wait.
 ///
-/// Files, output and status are those of `run_words`: the output has what that call put and nothing
-/// else. Sentence and notes are made of the words, of the bytes of the script that the run loaded
-/// and of the text that it put; nothing is loaded or stored for them, and where they cannot be put,
-/// nothing else changes. The ticker is the one that `--ticks` names.
+/// Files, output and status are those of `run_words_with`: the output has what that call put and
+/// nothing else. Sentence and notes are made of the words, of what the run found, of the bytes of
+/// the script that it loaded and of the text that it put; nothing is loaded or stored for them, and
+/// where they cannot be put, nothing else changes. The ticker is the one that `--ticks` names.
 pub fn run_program<R: Threads + Wait + Sync, F: Files, O: Sink, E: Sink>(
     rt: &R,
     alloc: Global,
@@ -78,7 +80,8 @@ pub fn run_program<R: Threads + Wait + Sync, F: Files, O: Sink, E: Sink>(
     ensures usage { IsUsage (command_of (map string_bytes words.now)) result.status }
     ensures code { result.code ≡ status_number result.status }
 
-    // The sentence or the notes, with lines of the script that the run read, and by what it put.
+    // The sentence or the notes, with lines of the script that the run read, by what it found and
+    // by what it put.
     ensures said { HasSaid (F.held files) (IsGivenSince (O.given out) (O.given result.out))
         (map string_bytes words.now) result.status (shown E.Sink errors.old)
         (shown E.Sink errors.new) result.said }

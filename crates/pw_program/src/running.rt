@@ -2,6 +2,7 @@
 //! put.
 ghost use Rattle.std.specs.Prelude.{◌≡◌, ◌≤◌, map, string_bytes};
 ghost use Rattle.pw_top.specs.FaultCauses.{Caused, IsUsage};
+ghost use Rattle.pw_top.specs.Found.{IsFound};
 ghost use Rattle.pw_top.specs.Outside.{outside};
 ghost use Rattle.pw_top.specs.Usage.{command_of, ticks_in};
 ghost use Rattle.first_load.specs.FirstLoad.{IsReadOf};
@@ -10,12 +11,12 @@ ghost use Rattle.pw_program.specs.Asking.{period_of, checks_of};
 ghost use Rattle.pw_program.specs.Program.{IsToldOf, script_name};
 
 use crate::asking::{Asked, Asks, Nth};
-use crate::ended::Ran;
+use crate::ended::Run;
 use first_load::{Begun, FirstLoad};
 use kept_output::{KeptOutput, Started};
 use pw_lists::{Items, Text};
 use pw_outside::{Files, Never, Open, Sink, Ticker};
-use pw_top::{Status, run_words, ticks_of};
+use pw_top::{Found, Ran, Status, run_words_with, ticks_of};
 use std::alloc::Global;
 use std::marker::Brand;
 use std::sync::Wait;
@@ -48,7 +49,7 @@ fn script_of<F: Files, K: Begun>(
     }
 }
 
-// Does what the words ask for, and answers the status; may wait.
+// Does what the words ask for, and answers the status and what was found; may wait.
 fn run_status<R: Threads + Wait + Sync, F: Files, O: Sink, T: Ticker>(
     rt: &R,
     alloc: Global,
@@ -56,16 +57,17 @@ fn run_status<R: Threads + Wait + Sync, F: Files, O: Sink, T: Ticker>(
     files: &mut F,
     out: &mut O,
     ticker: &mut T,
-) -> Status
+) -> (Status, Found)
     ensures told { IsToldOf (map string_bytes words.now)
         (outside F.Files O.Sink files.old out.old) (outside F.Files O.Sink files.new out.new)
-        (T.ticks ticker.old) (T.ticks ticker.new) result }
+        (T.ticks ticker.old) (T.ticks ticker.new) result.0 }
+    ensures found { IsFound (map string_bytes words.now) (F.held files.old) result.0 result.1 }
     ensures cause { Caused (outside F.Files O.Sink files.old out.old)
-        (outside F.Files O.Sink files.new out.new) result }
-    ensures usage { IsUsage (command_of (map string_bytes words.now)) result }
+        (outside F.Files O.Sink files.new out.new) result.0 }
+    ensures usage { IsUsage (command_of (map string_bytes words.now)) result.0 }
 {
-    let report = run_words(rt, alloc, words, files, out, &Open::new(), ticker);
-    report.status
+    let Ran { report, found } = run_words_with(rt, alloc, words, files, out, &Open::new(), ticker);
+    (report.status, found)
 }
 
 // Does what the words ask for, over files and an output that keep what it reads and puts; may wait.
@@ -76,12 +78,14 @@ fn run_by<R: Threads + Wait + Sync, F: Files, O: Sink, K: Begun, S: Started, T: 
     files: F,
     out: O,
     ticker: &mut T,
-) -> Ran<F, O>
+) -> Run<F, O>
     requires begun { K.begun ≡ F.held files }
     requires started { S.started ≡ O.given out }
     ensures told { IsToldOf (map string_bytes words.now) (outside F.Files O.Sink files out)
         (outside F.Files O.Sink result.files result.out) (T.ticks ticker.old) (T.ticks ticker.new)
         result.status }
+    ensures found { IsFound (map string_bytes words.now) (F.held files) result.status
+        result.found }
     ensures cause { Caused (outside F.Files O.Sink files out)
         (outside F.Files O.Sink result.files result.out) result.status }
     ensures usage { IsUsage (command_of (map string_bytes words.now)) result.status }
@@ -91,11 +95,12 @@ fn run_by<R: Threads + Wait + Sync, F: Files, O: Sink, K: Begun, S: Started, T: 
 {
     let mut kept: FirstLoad<F, K> = FirstLoad::new(files);
     let mut put: KeptOutput<O, S> = KeptOutput::new(alloc, out);
-    let status = run_status(rt, alloc, words, &mut kept, &mut put, ticker);
+    let (status, found) = run_status(rt, alloc, words, &mut kept, &mut put, ticker);
     let script = script_of(alloc, &kept, words);
     let (out, told) = put.into_parts();
-    Ran {
+    Run {
         status,
+        found,
         files: kept.into_files(),
         out,
         script,
@@ -111,7 +116,7 @@ fn run_nth<R: Threads + Wait + Sync, F: Files, O: Sink, K: Begun, S: Started, P:
     files: F,
     out: O,
     n: u64,
-) -> (Ran<F, O>, Asked)
+) -> (Run<F, O>, Asked)
     requires begun { K.begun ≡ F.held files }
     requires started { S.started ≡ O.given out }
     requires some { 1 ≤ n }
@@ -119,6 +124,8 @@ fn run_nth<R: Threads + Wait + Sync, F: Files, O: Sink, K: Begun, S: Started, P:
     ensures told { IsToldOf (map string_bytes words.now) (outside F.Files O.Sink files out)
         (outside F.Files O.Sink result.0.files result.0.out) 0 (checks_of result.1)
         result.0.status }
+    ensures found { IsFound (map string_bytes words.now) (F.held files) result.0.status
+        result.0.found }
     ensures asked { period_of result.1 ≡ n }
     ensures cause { Caused (outside F.Files O.Sink files out)
         (outside F.Files O.Sink result.0.files result.0.out) result.0.status }
@@ -139,10 +146,12 @@ pub(crate) fn run_kept<R: Threads + Wait + Sync, F: Files, O: Sink>(
     words: &[String],
     files: F,
     out: O,
-) -> (Ran<F, O>, Asked)
+) -> (Run<F, O>, Asked)
     ensures told { IsToldOf (map string_bytes words.now) (outside F.Files O.Sink files out)
         (outside F.Files O.Sink result.0.files result.0.out) 0 (checks_of result.1)
         result.0.status }
+    ensures found { IsFound (map string_bytes words.now) (F.held files) result.0.status
+        result.0.found }
     ensures asked { period_of result.1 ≡ ticks_in (command_of (map string_bytes words.now)) }
     ensures cause { Caused (outside F.Files O.Sink files out)
         (outside F.Files O.Sink result.0.files result.0.out) result.0.status }

@@ -9,7 +9,7 @@ ghost use Rattle.pw_program.specs.Program.{shown, IsSaid};
 use fault_messages::{explain, words_message};
 use pw_lists::{Memory, Text};
 use pw_outside::{FileFail, Sink};
-use pw_top::Status;
+use pw_top::{Found, Status};
 use std::alloc::Global;
 use system_files::Unread;
 
@@ -44,14 +44,23 @@ pub(crate) fn tell<E: Sink>(
     alloc: Global,
     words: &[String],
     status: &Status,
+    found: &Found,
     script: &Option<Text>,
     told: &Option<Text>,
     errors: &mut E,
 ) -> Result<(), FileFail>
-    ensures { IsSaid (explained status.now (map string_bytes words.now) script.now told.now)
+    ensures { IsSaid
+        (explained status.now found.now (map string_bytes words.now) script.now told.now)
         (shown E.Sink errors.old) (shown E.Sink errors.new) result }
 {
-    let made = explain(alloc, status, words, bytes_of(script), bytes_of(told));
+    let made = explain(
+        alloc,
+        status,
+        found,
+        words,
+        bytes_of(script),
+        bytes_of(told),
+    );
     put_made(alloc, made, errors)
 }
 

@@ -6,5 +6,5 @@ returns-clause-told g c = record {
   happened = _;
   from = refl;
   to = refl;
-  told = c.run_words-report.ensures.told;
+  told = c.run_words_with-report.ensures.told;
 }
