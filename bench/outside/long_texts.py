@@ -1,4 +1,5 @@
 """What is put on standard output where it is more than one write or one page."""
+import re
 import resource
 import signal
 
@@ -58,11 +59,28 @@ def pictures(place):
     place.file("cycles.graph", "cycles 300\n")
     trace = "".join(f"begin {c}\nstart {c} dummy\nfinish {c} dummy\nend {c}\n" for c in range(200))
     place.file("cycles.trace", trace)
+    ranged(place, trace)
     for words in [["wave", "wave.wav"], ["timeline", "cycles.graph", "cycles.trace"]]:
         drawn = place.ask(*words, of=PICTURES)
         place.same(f"{words[0]}: a whole picture", (0, True, True, True),
                    (drawn.status, len(drawn.out) > 8192, drawn.out.startswith(b"<svg"),
                     drawn.out.endswith(b"</svg>\n")))
+
+
+def ranged(place, trace):
+    """A range of cycles is drawn as a trace that has only these; one that ends beyond is refused."""
+    of_cycle = re.compile(r"^\w+ (1[7-9]|2[0-3])( |$)")
+    place.file("few.trace", "".join(f"{line}\n" for line in trace.splitlines()
+                                    if of_cycle.match(line)))
+    few = place.ask("timeline", "cycles.graph", "few.trace", of=PICTURES)
+    words = ["timeline", "cycles.graph", "cycles.trace"]
+    drawn = place.ask(*words, "17", "23", of=PICTURES)
+    place.same("a range of cycles", (0, few.out, b""), (drawn.status, drawn.out, drawn.errors))
+    for ends, at, cycle in [(("200", "201"), 3, 200), (("199", "200"), 4, 200)]:
+        answer = place.expect(f"cycles {ends} of 200", [*words, *ends], 1, f"usage {at}\n",
+                              of=PICTURES)
+        said = f"pipegraph-pictures: cycles.trace: it has no event of cycle {cycle}\n"
+        place.same(f"what is said of {ends}", said.encode(), answer.errors)
 
 
 def cut(place):

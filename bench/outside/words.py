@@ -76,6 +76,10 @@ def helps(place):
     for words, line in [(["play"], "usage 0\n"), (["graph"], "usage 1\n"),
                         (["graph", "-a"], "usage 1\n"),
                         (["graph", "a", "b", "c"], "usage 3\n"), (["timeline", "a"], "usage 2\n"),
+                        (["timeline", "a", "b", "-1", "2"], "usage 3\n"),
+                        (["timeline", "a", "b", "1"], "usage 4\n"),
+                        (["timeline", "a", "b", "2", "1"], "usage 4\n"),
+                        (["timeline", "a", "b", "1", "2", "3"], "usage 5\n"),
                         (["wave"], "usage 1\n"), (["wave", "a", "b"], "usage 2\n"),
                         (["wave", "a" * 256], "usage 1\n")]:
         place.expect(f"pipegraph-pictures {words}", words, 1, line, of=PICTURES)

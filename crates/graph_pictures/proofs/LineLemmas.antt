@@ -28,6 +28,7 @@ lined S.Ok = refl
 lined (S.Usage word) = tt
 lined (S.Script line why) = why_lined why _
 lined (S.Line number) = tt
+lined (S.NoCycle word) = tt
 lined (S.Wav place why) = tt
 lined (S.Absent place) = tt
 lined (S.ReadFault place) = tt

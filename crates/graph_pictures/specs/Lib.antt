@@ -1,5 +1,6 @@
 pub mod Bands
 pub mod Answers
+pub mod Cycles
 pub mod Escaping
 pub mod Template
 pub mod GraphLinks

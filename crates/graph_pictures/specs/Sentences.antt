@@ -42,13 +42,18 @@ bytes_said W.ScriptBytes = codes ": it has more than 1048576 bytes\n"
 bytes_said which = codes ": it has more than 268435456 bytes\n"
 
 abbrev pub usage_said : List ℕ
-usage_said = codes
-    "usage: pipegraph-pictures graph SCRIPT [TRACE] | timeline SCRIPT TRACE | wave FILE\n"
+usage_said = codes "usage: pipegraph-pictures graph SCRIPT [TRACE] | " ++ codes
+    "timeline SCRIPT TRACE [FROM TO] | wave FILE\n"
 
 -- a sentence about a file
 abbrev pub of_file : List ℕ → List (List ℕ) → ℕ → List ℕ → List ℕ
 of_file front words place said =
     codes "pipegraph-pictures: " ++ front ++ file_said words place ++ said
+
+-- a trace that has not the cycle of the word at an index
+abbrev pub of_cycle : List (List ℕ) → ℕ → List ℕ
+of_cycle words word = of_file [] words trace_place (codes ": it has no event of cycle ")
+    ++ map shown_byte (slice_index_or words word []) ++ codes "\n"
 
 -- THE SENTENCE of a status; there is none where all was done
 unfoldable pub explained : List (List ℕ) → Status → List ℕ
@@ -59,6 +64,7 @@ explained words (S.Script line why) =
     (filled (codes ":%: pipegraph refuses this line too, and says why\n") (line ∷ []))
 explained words (S.Line number) =
     of_file [] words trace_place (filled (codes ":%: no line of a run\n") (number ∷ []))
+explained words (S.NoCycle word) = of_cycle words word
 explained words (S.Wav place why) = of_file [] words place (wav_said why)
 explained words (S.Absent place) =
     of_file (codes "cannot read ") words place (codes ": there is no such file\n")

@@ -14,6 +14,7 @@ status_number S.Ok = 0
 status_number (S.Usage word) = 1
 status_number (S.Script line why) = 2
 status_number (S.Line number) = 2
+status_number (S.NoCycle word) = 1
 status_number (S.Wav place why) = 3
 status_number (S.Absent place) = 5
 status_number (S.ReadFault place) = 6
@@ -44,6 +45,7 @@ line_of (S.Usage word) = filled (codes "usage %\n") (word ∷ [])
 line_of (S.Script line why) =
     filled (why_form why) (line ∷ why_number why ∷ which_in why ∷ [])
 line_of (S.Line number) = filled (codes "line %\n") (number ∷ [])
+line_of (S.NoCycle word) = filled (codes "usage %\n") (word ∷ [])
 line_of (S.Wav place why) = filled (codes "wav % %\n") (place ∷ wav_fault_number why ∷ [])
 line_of (S.Absent place) = filled (codes "absent %\n") (place ∷ [])
 line_of (S.ReadFault place) = filled (codes "read %\n") (place ∷ [])

@@ -1,4 +1,5 @@
--- What a status is to the frame of commands. Source: this project's own.
+-- What a status is to the frame of commands: a cycle that a trace has not is refused by what the
+-- trace holds, not by the grammar of the words. Source: this project's own.
 use Rattle.command_frame.specs.declared.ending.End.{End}
 use Rattle.command_frame.specs.declared.ending.End.TheVariants as E
 use Rattle.command_frame.specs.Statuses.{Statuses}
@@ -11,6 +12,7 @@ means S.Ok = E.Done
 means (S.Usage word) = E.Usage word
 means (S.Script line why) = E.Refused
 means (S.Line number) = E.Refused
+means (S.NoCycle word) = E.Refused
 means (S.Wav place why) = E.Refused
 means (S.Absent place) = E.Refused
 means (S.ReadFault place) = E.ReadFault place

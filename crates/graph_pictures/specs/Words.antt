@@ -2,7 +2,9 @@
 -- where more are wanted.
 -- Source: this project's own.
 use Rattle.std.specs.Prelude.{ℕ, if◌then◌else◌, List, [], ◌∷◌, codes, bytes_eq, Result, Ok, Err}
+use Rattle.std.specs.Prelude.{Option, Some, None}
 use Rattle.command_frame.specs.Words.{Words, then_file, then_nothing}
+use Rattle.graph_script.specs.Arguments.{number_of}
 use Rattle.graph_pictures.specs.declared.words.Request.{Request}
 use Rattle.graph_pictures.specs.declared.words.Request.TheVariants as R
 
@@ -15,10 +17,28 @@ graph_behind script (trace ∷ rest) = then_file 2 (trace ∷ rest)
 abbrev pub graph_of : Words → Result Request ℕ
 graph_of words = then_file 1 words graph_behind
 
+-- a timeline of the cycles from one to a last, if that is a number
+abbrev pub to_last : List ℕ → List ℕ → ℕ → Option ℕ → Words → Result Request ℕ
+to_last script trace from None rest = Err 4
+to_last script trace from (Some to) rest =
+    then_nothing 5 rest (R.Timeline script trace (Some (record { from = from; to = to })))
+
+-- the words after a first cycle, if that is a number: the last, which is not before it
+abbrev pub from_first : List ℕ → List ℕ → Option ℕ → Words → Result Request ℕ
+from_first script trace None rest = Err 3
+from_first script trace (Some from) [] = Err 4
+from_first script trace (Some from) (word ∷ rest) =
+    to_last script trace from (number_of from 4294967295 word) rest
+
+-- the words after a trace: nothing, or the first and the last of its cycles that are asked for
+abbrev pub trace_behind : List ℕ → List ℕ → Words → Result Request ℕ
+trace_behind script trace [] = Ok (R.Timeline script trace None)
+trace_behind script trace (word ∷ rest) =
+    from_first script trace (number_of 0 4294967295 word) rest
+
 -- the words after `timeline`: a script, and a trace after it
 abbrev pub timeline_behind : List ℕ → Words → Result Request ℕ
-timeline_behind script words = then_file 2 words
-    (λ trace more. then_nothing 3 more (R.Timeline script trace))
+timeline_behind script words = then_file 2 words (trace_behind script)
 
 abbrev pub timeline_of : Words → Result Request ℕ
 timeline_of words = then_file 1 words timeline_behind

@@ -8,6 +8,7 @@
 #![tactic(auto)]
 
 mod bands;
+mod cycles;
 mod drawing;
 mod escaping;
 mod frame;

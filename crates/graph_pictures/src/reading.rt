@@ -10,13 +10,14 @@ ghost use Rattle.graph_pictures.specs.TraceAnswers.{DrawsTrace, DrawsRun};
 ghost use Rattle.graph_pictures.specs.WaveReading.{DrawsWave, IsWaveDrawn};
 ghost use Rattle.graph_pictures.specs.working.Sound.{IsSoundScript, Anything};
 
+use crate::cycles::{Cycles, chosen};
 use crate::graph_drawing::graph;
 use crate::status::Status;
 use crate::timeline_drawing::timeline;
 use crate::trace_text::read_run;
 use crate::wave_drawing::wave;
 use crate::words::Request;
-use command_frame::load_step;
+use command_frame::{Misread, load_step};
 use cycle_trace::TraceFault;
 use graph_script::{Script, ScriptFault, parse};
 use pw_lists::{Items, SCRIPT_BYTES_LIMIT, Text, WAV_BYTES_LIMIT, Which};
@@ -91,18 +92,27 @@ fn read_graph<F: Files>(alloc: Global, files: &mut F, name: &Text) -> Result<Tex
     }
 }
 
-// The timeline of the events of a run's text.
-fn drawn_trace(alloc: Global, script: &Script, bytes: &[u8]) -> Result<Text, Status>
+// The timeline of those events of a run's text that are asked for.
+fn drawn_trace(
+    alloc: Global,
+    script: &Script,
+    cycles: Option<Cycles>,
+    bytes: &[u8],
+) -> Result<Text, Status>
     requires { IsSoundScript script.now }
-    ensures drawn { DrawsTrace script.now bytes.now result }
+    ensures drawn { DrawsTrace cycles script.now bytes.now result }
     ensures cause { CommandCause statuses Anything 0 0 result }
 {
     match read_run(alloc, script.names(), bytes) {
         Err(TraceFault::Line(number)) => Err(Status::Line { number }),
         Err(TraceFault::Memory) => Err(Status::Memory),
-        Ok(events) => match timeline(alloc, script.names(), &events) {
-            Ok(text) => Ok(text),
-            Err(_memory) => Err(Status::Memory),
+        Ok(events) => match chosen(alloc, cycles, events) {
+            Err(Misread::Word(word)) => Err(Status::NoCycle { word }),
+            Err(Misread::Memory) => Err(Status::Memory),
+            Ok(drawn) => match timeline(alloc, script.names(), &drawn) {
+                Ok(text) => Ok(text),
+                Err(_memory) => Err(Status::Memory),
+            },
         },
     }
 }
@@ -144,18 +154,19 @@ fn read_trace<F: Files>(
     files: &mut F,
     script: &Script,
     name: &Text,
+    cycles: Option<Cycles>,
 ) -> Result<Text, Status>
     requires { IsSoundScript script.now }
     ensures files { LoadsOnly (F.held files.old) (F.held files.new) (F.load_faults files.old)
         (F.load_faults files.new) (F.store_faults files.old) (F.store_faults files.new) }
     ensures told { Tells statuses (F.held files.old)
-        (IsTraceDrawn (DrawsTrace script.now) name.now) result }
+        (IsTraceDrawn (DrawsTrace cycles script.now) name.now) result }
     ensures cause { CommandCause statuses Anything (F.load_faults files.old)
         (F.load_faults files.new) result }
 {
     match load_trace(alloc, files, name) {
         Err(status) => Err(status),
-        Ok(bytes) => drawn_trace(alloc, script, bytes.as_slice()),
+        Ok(bytes) => drawn_trace(alloc, script, cycles, bytes.as_slice()),
     }
 }
 
@@ -206,17 +217,18 @@ fn read_timeline<F: Files>(
     files: &mut F,
     script: &Text,
     trace: &Text,
+    cycles: Option<Cycles>,
 ) -> Result<Text, Status>
     ensures files { LoadsOnly (F.held files.old) (F.held files.new) (F.load_faults files.old)
         (F.load_faults files.new) (F.store_faults files.old) (F.store_faults files.new) }
-    ensures told { Tells statuses (F.held files.old) (IsRunDrawn DrawsTrace script.now trace.now)
-        result }
+    ensures told { Tells statuses (F.held files.old)
+        (IsRunDrawn (DrawsTrace cycles) script.now trace.now) result }
     ensures cause { CommandCause statuses Anything (F.load_faults files.old)
         (F.load_faults files.new) result }
 {
     match read_script(alloc, files, script) {
         Err(status) => Err(status),
-        Ok(script) => read_trace(alloc, files, &script, trace),
+        Ok(script) => read_trace(alloc, files, &script, trace, cycles),
     }
 }
 
@@ -272,7 +284,11 @@ pub(crate) fn picture_of<F: Files>(
     match request {
         Request::Graph { script } => read_graph(alloc, files, script),
         Request::RunGraph { script, trace } => read_run_graph(alloc, files, script, trace),
-        Request::Timeline { script, trace } => read_timeline(alloc, files, script, trace),
+        Request::Timeline {
+            script,
+            trace,
+            cycles,
+        } => read_timeline(alloc, files, script, trace, *cycles),
         Request::Wave { file } => read_wave(alloc, files, file),
     }
 }

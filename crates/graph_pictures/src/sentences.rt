@@ -1,7 +1,7 @@
 //! Sentences for people.
 ghost use Rattle.std.specs.Prelude.{◌≡◌, ◌++◌, ◌∷◌, [], map, string_bytes, slice_index_or, IfOk, OnOk};
 ghost use Rattle.graph_pictures.specs.Template.{filled};
-ghost use Rattle.graph_pictures.specs.Sentences.{shown_byte, file_word, wav_said, bytes_said, of_file, explained};
+ghost use Rattle.graph_pictures.specs.Sentences.{shown_byte, file_word, wav_said, bytes_said, usage_said, of_file, of_cycle, explained};
 
 use crate::status::Status;
 use crate::template::fill;
@@ -114,6 +114,40 @@ fn put_of_line(
     put_of_file(text, &[], words, place, said.as_slice())
 }
 
+// The word at an index, as a terminal may show it.
+fn put_word(text: &mut Text, words: &[String], index: u32) -> Result<(), Memory>
+    ensures { OnOk result (text.new ≡ text.old
+        ++ map shown_byte (slice_index_or (map string_bytes words.now) index [])) }
+{
+    put_shown(text, word_at(words, index as usize))
+}
+
+// A sentence about a cycle that a trace has not, which the word at an index names.
+fn put_of_cycle(text: &mut Text, words: &[String], word: u32) -> Result<(), Memory>
+    ensures { OnOk result
+        (text.new ≡ text.old ++ of_cycle (map string_bytes words.now) word) }
+{
+    put_of_file(
+        text,
+        &[],
+        words,
+        TRACE_PLACE,
+        b": it has no event of cycle ",
+    )?;
+    put_word(text, words, word)?;
+    text.extend(b"\n")?;
+    Ok(())
+}
+
+// The forms of the commands.
+#[tactic(auto, using(crate::proofs::Grown::texts))]
+fn put_usage(text: &mut Text) -> Result<(), Memory>
+    ensures { OnOk result (text.new ≡ text.old ++ usage_said) }
+{
+    text.extend(b"usage: pipegraph-pictures graph SCRIPT [TRACE] | ")?;
+    text.extend(b"timeline SCRIPT TRACE [FROM TO] | wave FILE\n")
+}
+
 // The sentence of a status.
 #[tactic(auto, unfolding(crate::specs::Sentences::explained))]
 fn put_sentence(
@@ -127,9 +161,7 @@ fn put_sentence(
 {
     match status {
         Status::Ok => Ok(()),
-        Status::Usage { .. } => text.extend(
-            b"usage: pipegraph-pictures graph SCRIPT [TRACE] | timeline SCRIPT TRACE | wave FILE\n",
-        ),
+        Status::Usage { .. } => put_usage(text),
         Status::Script { line, .. } => put_of_line(
             alloc,
             text,
@@ -146,6 +178,7 @@ fn put_sentence(
             number,
             b":%: no line of a run\n",
         ),
+        Status::NoCycle { word } => put_of_cycle(text, words, word),
         Status::Wav { place, why } => put_of_file(text, &[], words, place, wav_said(why)),
         Status::Absent { place } => put_of_file(
             text,

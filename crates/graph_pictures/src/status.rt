@@ -24,6 +24,8 @@ pub enum Status {
     Script { line: u32, why: ScriptWhy },
     /// The first line of a trace that no run prints, counted from 1.
     Line { number: u64 },
+    /// An end of a range of cycles that no event of the trace is of; `word` names it.
+    NoCycle { word: u32 },
     /// What is wrong with a WAV file.
     Wav { place: u32, why: WavFault },
     /// A file that is not there.
@@ -45,7 +47,7 @@ impl Status {
     {
         match self {
             Status::Ok => 0,
-            Status::Usage { .. } => 1,
+            Status::Usage { .. } | Status::NoCycle { .. } => 1,
             Status::Script { .. } | Status::Line { .. } => 2,
             Status::Wav { .. } => 3,
             Status::Absent { .. } => 5,
@@ -86,6 +88,7 @@ fn has_line(status: Status) -> bool
         Status::Usage { .. }
         | Status::Script { .. }
         | Status::Line { .. }
+        | Status::NoCycle { .. }
         | Status::Wav { .. }
         | Status::Absent { .. }
         | Status::ReadFault { .. }
@@ -107,6 +110,7 @@ fn push_line(text: &mut Text, status: Status) -> Result<(), Memory>
             &[u64::from(line), u64::from(why.number()), which_in(why)],
         ),
         Status::Line { number } => fill(text, b"line %\n", &[number]),
+        Status::NoCycle { word } => fill(text, b"usage %\n", &[u64::from(word)]),
         Status::Wav { place, why } => fill(
             text,
             b"wav % %\n",

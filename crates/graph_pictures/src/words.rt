@@ -1,21 +1,35 @@
 //! The words of a command line.
-ghost use Rattle.std.specs.Prelude.{◌≡◌, map, string_bytes, Ok, IfOk};
+ghost use Rattle.std.specs.Prelude.{◌≡◌, map, string_bytes, Some, Ok, IfOk};
 ghost use Rattle.command_frame.specs.Words.{is_file_word, IsAsked};
-ghost use Rattle.graph_pictures.specs.Words.{graph_behind, graph_of, timeline_behind, timeline_of, wave_of, request_of};
+ghost use Rattle.graph_script.specs.Arguments.{number_of};
+ghost use Rattle.graph_pictures.specs.Words.{graph_behind, graph_of, from_first, trace_behind, timeline_behind, timeline_of, wave_of, request_of};
 ghost use Rattle.graph_pictures.specs.declared.words.Request.TheVariants as R;
 
+use crate::cycles::Cycles;
 use command_frame::Misread;
+use graph_script::number_within;
 use pw_lists::{Items, Memory, Text};
 use std::alloc::Global;
 
 /// What words ask for: a picture of a script's graph, one with what a run of it did, a timeline of
-/// a trace of it, or the peaks of a WAV file.
+/// a trace of it or of a range of its cycles, or the peaks of a WAV file.
 #[derive(Drop)]
 pub enum Request {
-    Graph { script: Text },
-    RunGraph { script: Text, trace: Text },
-    Timeline { script: Text, trace: Text },
-    Wave { file: Text },
+    Graph {
+        script: Text,
+    },
+    RunGraph {
+        script: Text,
+        trace: Text,
+    },
+    Timeline {
+        script: Text,
+        trace: Text,
+        cycles: Option<Cycles>,
+    },
+    Wave {
+        file: Text,
+    },
 }
 
 // Whether a word may name a file.
@@ -58,12 +72,22 @@ fn run_graph_request(alloc: Global, script: &String, trace: &String) -> Result<R
     }
 }
 
-// The request of a timeline.
-fn timeline_request(alloc: Global, script: &String, trace: &String) -> Result<Request, Misread>
-    ensures { IsAsked (Ok (R.Timeline (string_bytes script.now) (string_bytes trace.now))) result }
+// The request of a timeline, of these cycles or of all.
+fn timeline_request(
+    alloc: Global,
+    script: &String,
+    trace: &String,
+    cycles: Option<Cycles>,
+) -> Result<Request, Misread>
+    ensures { IsAsked (Ok (R.Timeline (string_bytes script.now) (string_bytes trace.now) cycles))
+        result }
 {
     match two_texts(alloc, script, trace) {
-        Ok((script, trace)) => Ok(Request::Timeline { script, trace }),
+        Ok((script, trace)) => Ok(Request::Timeline {
+            script,
+            trace,
+            cycles,
+        }),
         Err(_memory) => Err(Misread::Memory),
     }
 }
@@ -113,6 +137,58 @@ fn read_graph(alloc: Global, rest: &[String]) -> Result<Request, Misread>
     }
 }
 
+// The cycle that a word names, if it is a number from `low` on.
+fn cycle_in(word: &String, low: u32) -> Option<u32>
+    ensures { result ≡ number_of low 4294967295 (string_bytes word.now) }
+{
+    number_within(word.as_bytes(), low, u32::MAX)
+}
+
+// The words after the first cycle.
+fn read_last(
+    alloc: Global,
+    script: &String,
+    trace: &String,
+    from: u32,
+    rest: &[String],
+) -> Result<Request, Misread>
+    ensures { IsAsked (from_first (string_bytes script.now) (string_bytes trace.now) (Some from)
+        (map string_bytes rest.now)) result }
+{
+    match rest {
+        [] => Err(Misread::Word(4)),
+        [word, more @ ..] => match cycle_in(word, from) {
+            None => Err(Misread::Word(4)),
+            Some(to) => {
+                if more.is_empty() {
+                    timeline_request(alloc, script, trace, Some(Cycles { from, to }))
+                } else {
+                    Err(Misread::Word(5))
+                }
+            }
+        },
+    }
+}
+
+// The words after the trace of a timeline.
+fn read_cycles(
+    alloc: Global,
+    script: &String,
+    trace: &String,
+    rest: &[String],
+) -> Result<Request, Misread>
+    ensures { IsAsked (trace_behind (string_bytes script.now) (string_bytes trace.now)
+        (map string_bytes rest.now)) result }
+{
+    match rest {
+        [] => timeline_request(alloc, script, trace, None),
+        [word, more @ ..] => match cycle_in(word, 0) {
+            None => Err(Misread::Word(3)),
+            Some(from) => read_last(alloc, script, trace, from, more),
+        },
+    }
+}
+
 // The words after the script of a timeline.
 fn read_trace(alloc: Global, script: &String, rest: &[String]) -> Result<Request, Misread>
     ensures { IsAsked (timeline_behind (string_bytes script.now) (map string_bytes rest.now))
@@ -121,12 +197,10 @@ fn read_trace(alloc: Global, script: &String, rest: &[String]) -> Result<Request
     match rest {
         [] => Err(Misread::Word(2)),
         [trace, more @ ..] => {
-            if !is_file_word(trace) {
-                Err(Misread::Word(2))
-            } else if more.is_empty() {
-                timeline_request(alloc, script, trace)
+            if is_file_word(trace) {
+                read_cycles(alloc, script, trace, more)
             } else {
-                Err(Misread::Word(3))
+                Err(Misread::Word(2))
             }
         }
     }

@@ -167,8 +167,18 @@ fn a_timeline_shows_bars_and_late_checks(rt: HostRuntime) -> Result<(), Fail> {
 
 // What is printed of a timeline of `TWO` and this trace ends so.
 fn expect_end<R: AllocGlobal + Abort>(rt: &R, trace: &[u8], wanted: &[u8]) -> Result<(), Memory> {
+    expect_end_of(rt, "timeline s t", trace, wanted)
+}
+
+// What the words of a line print of `TWO` and this trace ends so.
+fn expect_end_of<R: AllocGlobal + Abort>(
+    rt: &R,
+    line: &str,
+    trace: &[u8],
+    wanted: &[u8],
+) -> Result<(), Memory> {
     let alloc = rt.alloc();
-    let words = words_of(alloc, "timeline s t")?;
+    let words = words_of(alloc, line)?;
     let mut files = SureFiles::new(alloc)?;
     files.add_file(alloc, &text(alloc, "s")?, TWO.as_bytes())?;
     files.add_file(alloc, &text(alloc, "t")?, trace)?;
@@ -194,6 +204,45 @@ fn only_nodes_that_an_event_names_have_a_row(rt: HostRuntime) -> Result<(), Fail
         <use xlink:href='#strip'/></svg></g>\n\
         </svg>\n";
     expect_end(&rt, b"begin 5\ntick 5 dummy\n", wanted)?;
+    Ok(())
+}
+
+#[test]
+fn a_range_has_the_events_of_its_cycles_only(rt: HostRuntime) -> Result<(), Fail> {
+    let trace = b"begin 0\nstart 0 a\nbegin 1\nfinish 0 a\nend 0\ntick 1 dummy\nend 1\nbegin 2\n\
+        start 2 o\nend 2\n";
+    let wanted = b"'>3 events in order</text>\n\
+        <path class='b' d='M8 32h24'/><text x='40' y='36'>start to finish</text>\
+        <path class='c' d='M176 26v12'/><text x='184' y='36'>begin of a cycle</text>\
+        <path class='l' d='M324 32m-4 0l4-4 4 4-4 4z'/><text x='336' y='36'>late</text>\n\
+        <defs><g id='rows'>\n\
+        <path class='r' d='M120 28h32'/><text class='n' x='112' y='32'>dummy</text>\n\
+        </g>\n\
+        <g id='strip' transform='translate(4,0)'>\n\
+        <path class='c' d='M0 4v34'/><text x='3' y='12'>1</text>\n\
+        <path class='t' d='M8 14v4'/>\n\
+        <path class='t' d='M8 18v20'/><path class='l' d='M8 28m-4 0l4-4 4 4-4 4z'/>\n\
+        </g></defs>\n\
+        <g transform='translate(0,44)'><text class='n' x='112' y='12'>cycle 1</text>\
+        <use xlink:href='#rows'/><svg x='120' width='32' height='44' viewBox='0 0 32 44'>\
+        <use xlink:href='#strip'/></svg></g>\n\
+        </svg>\n";
+    expect_end_of(&rt, "timeline s t 1 1", trace, wanted)?;
+    Ok(())
+}
+
+#[test]
+fn a_range_that_ends_beyond_the_trace_is_refused(rt: HostRuntime) -> Result<(), Fail> {
+    let table = [
+        ("timeline s t 2 3", "begin 0\nend 1\n", 3, "usage 3\n"),
+        ("timeline s t 1 2", "begin 0\nend 1\n", 4, "usage 4\n"),
+        ("timeline s t 0 0", "", 3, "usage 3\n"),
+    ];
+    for (line, trace, word, wanted) in table {
+        expect(&rt, line, TWO, trace, Status::NoCycle { word }, wanted)?;
+    }
+    let bad = Status::Line { number: 1 };
+    expect(&rt, "timeline s t 7 8", TWO, "x\n", bad, "line 1\n")?;
     Ok(())
 }
 
@@ -404,7 +453,7 @@ fn a_refusal_has_a_sentence_for_people(rt: HostRuntime) -> Result<(), Fail> {
         (
             "draw s",
             Status::Usage { word: 0 },
-            "usage: pipegraph-pictures graph SCRIPT [TRACE] | timeline SCRIPT TRACE | wave FILE\n",
+            "usage: pipegraph-pictures graph SCRIPT [TRACE] | timeline SCRIPT TRACE [FROM TO] | wave FILE\n",
         ),
         (
             "graph s",
@@ -418,6 +467,11 @@ fn a_refusal_has_a_sentence_for_people(rt: HostRuntime) -> Result<(), Fail> {
             "timeline s t",
             Status::Line { number: 7 },
             "pipegraph-pictures: t:7: no line of a run\n",
+        ),
+        (
+            "timeline s t 8 12",
+            Status::NoCycle { word: 4 },
+            "pipegraph-pictures: t: it has no event of cycle 12\n",
         ),
         (
             "wave w",
@@ -473,6 +527,12 @@ fn words_and_files_are_refused_by_cause(rt: HostRuntime) -> Result<(), Fail> {
         ("timeline s", usage(2), "usage 2\n"),
         ("timeline s -t", usage(2), "usage 2\n"),
         ("timeline s t u", usage(3), "usage 3\n"),
+        ("timeline s t 01 2", usage(3), "usage 3\n"),
+        ("timeline s t 4294967296 4294967296", usage(3), "usage 3\n"),
+        ("timeline s t 1", usage(4), "usage 4\n"),
+        ("timeline s t 1 -2", usage(4), "usage 4\n"),
+        ("timeline s t 2 1", usage(4), "usage 4\n"),
+        ("timeline s t 1 2 3", usage(5), "usage 5\n"),
         ("wave", usage(1), "usage 1\n"),
         ("wave -s", usage(1), "usage 1\n"),
         ("wave s t", usage(2), "usage 2\n"),
@@ -521,6 +581,7 @@ fn each_status_has_its_number(rt: HostRuntime) {
         (Status::Ok, 0),
         (Status::Usage { word: 3 }, 1),
         (Status::Line { number: 3 }, 2),
+        (Status::NoCycle { word: 3 }, 1),
         (
             Status::Wav {
                 place: 1,
