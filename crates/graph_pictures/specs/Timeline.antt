@@ -13,7 +13,7 @@ abbrev pub frame_of : List (List ℕ) → List ℕ → ℕ → ℕ → Frame
 frame_of names rows shown all = record {
   left = 80 + 8 * widest names rows;
   wide = 8 + 8 * min shown 200;
-  full = max (80 + 8 * widest names rows + (8 + 8 * min shown 200)) 480 + 16;
+  full = max (80 + 8 * widest names rows + (8 + 8 * min shown 200)) 480 + 64;
   high = 20 * length rows;
   bands = (shown + 199) / 200;
   shown = shown;

@@ -1,7 +1,7 @@
 //! The bands of a timeline at the end of a text. After `Memory` the text has a part of them.
 ghost use Rattle.std.specs.Prelude.{◌≡◌, ◌≤◌, ◌++◌, length, take, OnOk};
 ghost use Rattle.std.specs.Option.{option_or};
-ghost use Rattle.graph_pictures.specs.Bands.{begun, last_begun, cycle_text, band_parts, band_text, bands_text};
+ghost use Rattle.graph_pictures.specs.Bands.{begun, last_begun, cycle_text, begin_text, begins_text, view_of, band_parts, band_text, bands_text};
 ghost use Rattle.graph_pictures.specs.working.Sizes.{AreSizes};
 
 use crate::frame::Frame;
@@ -58,18 +58,77 @@ fn put_cycle(text: &mut Text, left: u64, cycle: Option<u32>) -> Result<(), Memor
     }
 }
 
-// A band in which this cycle goes on.
-fn put_parts(text: &mut Text, frame: Frame, cycle: Option<u32>, band: u64) -> Result<(), Memory>
+// The number of the cycle that an event begins, if that is in this band.
+fn put_begin(text: &mut Text, left: u64, band: u64, index: u64, event: Event) -> Result<(), Memory>
+    requires { left ≤ 328 }
+    ensures { OnOk result (text.new ≡ text.old ++ begin_text left band index event) }
+{
+    match event {
+        Event::Begin { cycle } => {
+            if index / 200 == band {
+                let at = left + 7 + 8 * (index % 200);
+                fill(
+                    text,
+                    b"<text x='%' y='12'>%</text>",
+                    &[at, u64::from(cycle)],
+                )
+            } else {
+                Ok(())
+            }
+        }
+        _ => Ok(()),
+    }
+}
+
+// The numbers of the cycles that events begin in this band.
+#[tactic(auto, using(crate::proofs::Grown::texts), unfolding(crate::specs::Bands::begins_text))]
+fn put_begins(text: &mut Text, left: u64, band: u64, events: &[Event]) -> Result<(), Memory>
+    requires left { left ≤ 328 }
+    requires few { length events.now ≤ 1000 }
+    ensures { OnOk result (text.new ≡ text.old ++ begins_text left band 0 events.now) }
+{
+    let mut index = 0;
+    let mut rest = events;
+    loop {
+        match rest {
+            [] => return Ok(()),
+            [event, after @ ..] => {
+                put_begin(text, left, band, index, *event)?;
+                index += 1;
+                rest = after;
+            }
+        }
+    }
+}
+
+// How much of the strip a band shows.
+fn view_of(frame: Frame, band: u64) -> u64
+    requires { band ≤ 4 }
+    ensures { result ≡ view_of frame band }
+{
+    if band + 1 < frame.bands {
+        1600
+    } else {
+        frame.wide
+    }
+}
+
+// A band in which this cycle goes on, and which shows so much of the strip.
+fn put_parts(
+    text: &mut Text,
+    frame: Frame,
+    cycle: Option<u32>,
+    band: u64,
+    view: u64,
+    shown: &[Event],
+) -> Result<(), Memory>
     requires sizes { AreSizes frame }
     requires band { band ≤ 4 }
-    ensures { OnOk result (text.new ≡ text.old ++ band_parts frame cycle band) }
+    requires few { length shown.now ≤ 1000 }
+    ensures { OnOk result
+        (text.new ≡ text.old ++ band_parts frame cycle band view shown.now) }
 {
-    let Frame {
-        left,
-        wide,
-        high,
-        ..
-    } = frame;
+    let Frame { left, high, .. } = frame;
     fill(
         text,
         b"<g transform='translate(0,%)'>",
@@ -79,9 +138,11 @@ fn put_parts(text: &mut Text, frame: Frame, cycle: Option<u32>, band: u64) -> Re
     fill(
         text,
         b"<use xlink:href='#rows'/><svg x='%' width='%' height='%' viewBox='% 0 % %'>",
-        &[left, wide, 24 + high, 1600 * band, wide, 24 + high],
+        &[left, view, 24 + high, 1600 * band, view, 24 + high],
     )?;
-    fill(text, b"<use xlink:href='#strip'/></svg></g>\n", &[])?;
+    fill(text, b"<use xlink:href='#strip'/></svg>", &[])?;
+    put_begins(text, left, band, shown)?;
+    fill(text, b"</g>\n", &[])?;
     Ok(())
 }
 
@@ -89,16 +150,19 @@ fn put_parts(text: &mut Text, frame: Frame, cycle: Option<u32>, band: u64) -> Re
 fn put_band(text: &mut Text, frame: Frame, shown: &[Event], band: u64) -> Result<(), Memory>
     requires sizes { AreSizes frame }
     requires band { band ≤ 4 }
+    requires few { length shown.now ≤ 1000 }
     ensures { OnOk result (text.new ≡ text.old ++ band_text frame shown.now band) }
 {
     let before = first_of(shown, 200 * band as usize + 1);
-    put_parts(text, frame, last_begun(before), band)
+    let view = view_of(frame, band);
+    put_parts(text, frame, last_begun(before), band, view, shown)
 }
 
 /// The bands of events.
 #[tactic(auto, using(crate::proofs::RangeLemmas::ranges))]
 pub(crate) fn put_bands(text: &mut Text, frame: Frame, shown: &[Event]) -> Result<(), Memory>
     requires sizes { AreSizes frame }
+    requires few { length shown.now ≤ 1000 }
     ensures { OnOk result (text.new ≡ text.old ++ bands_text frame shown.now) }
 {
     for band in 0..frame.bands {

@@ -70,7 +70,7 @@ pub(crate) fn frame_of(names: &[Text], rows: &[u32], shown: u64, all: u64) -> Fr
     Frame {
         left,
         wide,
-        full: greater(left + wide, 480) + 16,
+        full: greater(left + wide, 480) + 64,
         high: 20 * rows.len() as u64,
         bands: (shown + 199) / 200,
         shown,

@@ -112,11 +112,7 @@ fn put_event(
 {
     let x = 8 * index;
     match event {
-        Event::Begin { cycle } => fill(
-            text,
-            b"<path class='c' d='M% 4v%'/><text x='%' y='12'>%</text>\n",
-            &[x, 14 + high, x + 3, u64::from(cycle)],
-        ),
+        Event::Begin { .. } => fill(text, b"<path class='c' d='M% 4v%'/>\n", &[x, 14 + high]),
         Event::Start { cycle, node } => {
             let span = span_of(cycle, node, after);
             let bar = [x, middle_of(rows, node), 8 * span];

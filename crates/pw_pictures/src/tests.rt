@@ -134,7 +134,7 @@ fn a_timeline_shows_bars_and_late_checks(rt: HostRuntime) -> Result<(), Fail> {
     let trace =
         "begin 0\nstart 0 a\ntick 0 a o\nstart 0 dummy\nfinish 0 a\nstart 0 o\nfinish 0 o\nfinish 0 dummy\nend 0\nbegin 1\nstart 1 a\nfinish 1 a\nstart 1 o\n";
     let wanted =
-        "<svg xmlns='http://www.w3.org/2000/svg' xmlns:xlink='http://www.w3.org/1999/xlink' version='1.1' width='496' height='140'>\n\
+        "<svg xmlns='http://www.w3.org/2000/svg' xmlns:xlink='http://www.w3.org/1999/xlink' version='1.1' width='544' height='140'>\n\
         <style>text{font:12px monospace}.n{text-anchor:end}.r{stroke:gainsboro}\n\
         .c{stroke:gray}.b{stroke:steelblue;stroke-width:12}\n\
         .t{stroke:red;stroke-dasharray:4 2}.l{fill:red}</style>\n\
@@ -148,18 +148,18 @@ fn a_timeline_shows_bars_and_late_checks(rt: HostRuntime) -> Result<(), Fail> {
         <path class='r' d='M120 68h112'/><text class='n' x='112' y='72'>dummy</text>\n\
         </g>\n\
         <g id='strip' transform='translate(4,0)'>\n\
-        <path class='c' d='M0 4v74'/><text x='3' y='12'>0</text>\n\
+        <path class='c' d='M0 4v74'/>\n\
         <path class='b' d='M8 28h24'/>\n\
         <path class='t' d='M16 14v4'/>\n\
         <path class='t' d='M16 18v20'/><path class='l' d='M16 28m-4 0l4-4 4 4-4 4z'/>\n\
         <path class='t' d='M16 38v20'/><path class='l' d='M16 48m-4 0l4-4 4 4-4 4z'/>\n\
         <path class='b' d='M24 68h32'/>\n\
         <path class='b' d='M40 48h8'/>\n\
-        <path class='c' d='M72 4v74'/><text x='75' y='12'>1</text>\n\
+        <path class='c' d='M72 4v74'/>\n\
         <path class='b' d='M80 28h8'/>\n\
         <path class='b' d='M96 48h8'/>\n\
         </g></defs>\n\
-        <g transform='translate(0,44)'><text class='n' x='112' y='12'>cycle 0</text><use xlink:href='#rows'/><svg x='120' width='112' height='84' viewBox='0 0 112 84'><use xlink:href='#strip'/></svg></g>\n\
+        <g transform='translate(0,44)'><text class='n' x='112' y='12'>cycle 0</text><use xlink:href='#rows'/><svg x='120' width='112' height='84' viewBox='0 0 112 84'><use xlink:href='#strip'/></svg><text x='127' y='12'>0</text><text x='199' y='12'>1</text></g>\n\
         </svg>\n";
     expect(&rt, "timeline s t", TWO, trace, Status::Ok, wanted)?;
     Ok(())
@@ -195,13 +195,13 @@ fn only_nodes_that_an_event_names_have_a_row(rt: HostRuntime) -> Result<(), Fail
         <path class='r' d='M120 28h24'/><text class='n' x='112' y='32'>dummy</text>\n\
         </g>\n\
         <g id='strip' transform='translate(4,0)'>\n\
-        <path class='c' d='M0 4v34'/><text x='3' y='12'>5</text>\n\
+        <path class='c' d='M0 4v34'/>\n\
         <path class='t' d='M8 14v4'/>\n\
         <path class='t' d='M8 18v20'/><path class='l' d='M8 28m-4 0l4-4 4 4-4 4z'/>\n\
         </g></defs>\n\
         <g transform='translate(0,44)'><text class='n' x='112' y='12'>cycle 5</text>\
         <use xlink:href='#rows'/><svg x='120' width='24' height='44' viewBox='0 0 24 44'>\
-        <use xlink:href='#strip'/></svg></g>\n\
+        <use xlink:href='#strip'/></svg><text x='127' y='12'>5</text></g>\n\
         </svg>\n";
     expect_end(&rt, b"begin 5\ntick 5 dummy\n", wanted)?;
     Ok(())
@@ -219,13 +219,13 @@ fn a_range_has_the_events_of_its_cycles_only(rt: HostRuntime) -> Result<(), Fail
         <path class='r' d='M120 28h32'/><text class='n' x='112' y='32'>dummy</text>\n\
         </g>\n\
         <g id='strip' transform='translate(4,0)'>\n\
-        <path class='c' d='M0 4v34'/><text x='3' y='12'>1</text>\n\
+        <path class='c' d='M0 4v34'/>\n\
         <path class='t' d='M8 14v4'/>\n\
         <path class='t' d='M8 18v20'/><path class='l' d='M8 28m-4 0l4-4 4 4-4 4z'/>\n\
         </g></defs>\n\
         <g transform='translate(0,44)'><text class='n' x='112' y='12'>cycle 1</text>\
         <use xlink:href='#rows'/><svg x='120' width='32' height='44' viewBox='0 0 32 44'>\
-        <use xlink:href='#strip'/></svg></g>\n\
+        <use xlink:href='#strip'/></svg><text x='127' y='12'>1</text></g>\n\
         </svg>\n";
     expect_end_of(&rt, "timeline s t 1 1", trace, wanted)?;
     Ok(())
@@ -253,11 +253,24 @@ fn a_band_says_which_cycle_goes_on(rt: HostRuntime) -> Result<(), Fail> {
         trace.extend(b"start 7 a\nfinish 7 a\n")?;
     }
     let wanted = b"<g transform='translate(0,44)'><text class='n' x='80' y='12'>cycle 7</text>\
-        <use xlink:href='#rows'/><svg x='88' width='1608' height='44' viewBox='0 0 1608 44'>\
-        <use xlink:href='#strip'/></svg></g>\n\
+        <use xlink:href='#rows'/><svg x='88' width='1600' height='44' viewBox='0 0 1600 44'>\
+        <use xlink:href='#strip'/></svg><text x='95' y='12'>7</text></g>\n\
         <g transform='translate(0,100)'><text class='n' x='80' y='12'>cycle 7</text>\
         <use xlink:href='#rows'/><svg x='88' width='1608' height='44' viewBox='1600 0 1608 44'>\
         <use xlink:href='#strip'/></svg></g>\n\
+        </svg>\n";
+    expect_end(&rt, trace.as_slice(), wanted)?;
+    // The last event of a band and the first of the next begin cycles: each number is in its band.
+    let mut trace = text(rt.alloc(), "begin 7\n")?;
+    for _ in 0..99 {
+        trace.extend(b"start 7 a\nfinish 7 a\n")?;
+    }
+    trace.extend(b"begin 8\nbegin 9\n")?;
+    let wanted = b"viewBox='0 0 1600 44'>\
+        <use xlink:href='#strip'/></svg><text x='95' y='12'>7</text><text x='1687' y='12'>8</text></g>\n\
+        <g transform='translate(0,100)'><text class='n' x='80' y='12'>cycle 9</text>\
+        <use xlink:href='#rows'/><svg x='88' width='1608' height='44' viewBox='1600 0 1608 44'>\
+        <use xlink:href='#strip'/></svg><text x='95' y='12'>9</text></g>\n\
         </svg>\n";
     expect_end(&rt, trace.as_slice(), wanted)?;
     Ok(())
@@ -272,7 +285,7 @@ fn the_whole_text_of_a_run_is_a_trace(rt: HostRuntime) -> Result<(), Fail> {
         </g></defs>\n\
         <g transform='translate(0,44)'><text class='n' x='112' y='12'>cycle 5</text>\
         <use xlink:href='#rows'/><svg x='120' width='24' height='44' viewBox='0 0 24 44'>\
-        <use xlink:href='#strip'/></svg></g>\n\
+        <use xlink:href='#strip'/></svg><text x='127' y='12'>5</text></g>\n\
         </svg>\n";
     expect_end(&rt, run, wanted)?;
     Ok(())
