@@ -22,6 +22,7 @@ pub mod AtWork
 pub mod WaveColumns
 pub mod WaveLanes
 pub mod WaveReading
+pub mod WaveScale
 pub mod WaveText
 pub mod WaveTicks
 pub mod working

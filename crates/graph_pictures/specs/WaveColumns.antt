@@ -2,7 +2,7 @@
 -- Source: RIFF WAVE, PCM of 16 bits, whose samples are interleaved by channel. The columns are this
 -- project's own.
 use Rattle.std.specs.Prelude.{ℕ, ◌+◌, ◌*◌, ◌/◌, ◌==◌, ◌||◌, Bool, List, map, fold, length, min, slice_range}
-use Rattle.std.specs.Prelude.{ℤ, pos, neg_ℤ, ◌-ℤ◌, unsigned_abs}
+use Rattle.std.specs.Prelude.{ℤ, pos, neg_ℤ, ◌-ℤ◌, unsigned_abs, count_by}
 use Rattle.std.specs.Int.{int_max, int_min}
 use Rattle.std.specs.List.{range_with_len}
 use Rattle.pw_lists.specs.Samples.{sample_at}
@@ -41,3 +41,10 @@ depth_of sample = unsigned_abs (sample -ℤ pos 32767)
 -- samples between these two reach a limit of 16 bits: -32768 or 32767
 abbrev pub is_clipped : ℤ → ℤ → Bool
 is_clipped least greatest = depth_of least == 65535 || depth_of greatest == 0
+
+-- how many samples are at a limit
+abbrev pub at_limit : ℤ → Bool
+at_limit sample = is_clipped sample sample
+
+abbrev pub clipped_of : List ℤ → ℕ
+clipped_of samples = count_by at_limit samples

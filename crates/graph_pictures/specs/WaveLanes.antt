@@ -1,9 +1,12 @@
--- Lanes of a wave: of each channel that is drawn its columns, from left to right.
+-- Lanes of a wave: of each channel its columns, from left to right, on a ground with a scale.
 -- Source: w3.org, "SVG 1.1", paths and transforms. What is drawn is this project's own.
-use Rattle.std.specs.Prelude.{ℕ, ◌+◌, ◌-◌, ◌*◌, ◌/◌, Bool, true, false, List, [], ◌∷◌, ◌++◌, flat_map, codes, max, length, ℤ}
+use Rattle.std.specs.Prelude.{ℕ, ◌+◌, ◌-◌, ◌*◌, ◌/◌, ◌==◌, if◌then◌else◌, Bool, true, false, List, []}
+use Rattle.std.specs.Prelude.{◌∷◌, ◌++◌, flat_map, codes, max, length, ℤ}
 use Rattle.std.specs.List.{range_with_len}
 use Rattle.graph_pictures.specs.Template.{filled}
-use Rattle.graph_pictures.specs.WaveColumns.{columns_of, column_of, least_of, greatest_of, depth_of, is_clipped}
+use Rattle.graph_pictures.specs.WaveColumns.{columns_of, column_of, least_of, greatest_of, depth_of}
+use Rattle.graph_pictures.specs.WaveColumns.{is_clipped}
+use Rattle.graph_pictures.specs.WaveScale.{top_of, ground_text, scale_text, title_text}
 
 -- how far below the top of its lane a sample is: a lane is 256 points high
 abbrev pub point_of : ℤ → ℕ
@@ -27,30 +30,18 @@ abbrev pub column_text : List ℤ → ℕ → ℕ → List ℕ
 column_text lane columns c = bar_text c (least_of (column_of lane columns c))
     (greatest_of (column_of lane columns c))
 
--- how many points wide a column is: 1,000 points are there for all
+-- how many points wide a column is, 1,000 points being there for all; and a lane, of no columns too
 abbrev pub unit_of : ℕ → ℕ
 unit_of columns = 1000 / max columns 1
 
--- the top of the lane of a channel
-abbrev pub top_of : ℕ → ℕ
-top_of channel = 72 + 300 * channel
+abbrev pub wide_of : ℕ → ℕ
+wide_of columns = if columns == 0 then 1000 else unit_of columns * columns
 
--- the ground of a lane, of this width, with its channel's number, the lines of its greatest
--- samples and of silence
-abbrev pub ground_text : ℕ → ℕ → List ℕ
-ground_text wide channel =
-    filled (codes "<path class='g' d='M48 %h%v256h-%z'/><path class='z' d='M48 %h%'/>\n")
-    (top_of channel ∷ wide ∷ wide ∷ (top_of channel + 127) ∷ wide ∷ [])
-    ++ filled (codes "<text x='48' y='%'>channel %</text><text class='n' x='44' y='%'>1</text>")
-    ((top_of channel - 12) ∷ (channel + 1) ∷ (top_of channel + 10) ∷ [])
-    ++ filled
-    (codes "<text class='n' x='44' y='%'>0</text><text class='n' x='44' y='%'>-1</text>\n")
-    ((top_of channel + 132) ∷ (top_of channel + 256) ∷ [])
-
--- a lane of `columns` columns, each `unit` points wide
-unfoldable pub lane_parts : List ℤ → ℕ → ℕ → ℕ → List ℕ
-lane_parts lane columns unit channel =
-    ground_text (unit * columns) channel
+-- a lane of this width, of `columns` columns, each `unit` points wide
+unfoldable pub lane_parts : List ℤ → ℕ → ℕ → ℕ → ℕ → List ℕ
+lane_parts lane wide columns unit channel =
+    ground_text wide (top_of channel) ++ title_text lane channel
+    ++ scale_text wide (top_of channel)
     ++ filled (codes "<g transform='translate(48,%) scale(%,1)'>\n")
     (top_of channel ∷ unit ∷ [])
     ++ flat_map (column_text lane columns) (range_with_len 0 columns)
@@ -58,5 +49,5 @@ lane_parts lane columns unit channel =
 
 -- THE LANE of a channel whose samples these are
 abbrev pub lane_text : List ℤ → ℕ → List ℕ
-lane_text lane channel = lane_parts lane (columns_of (length lane))
-    (unit_of (columns_of (length lane))) channel
+lane_text lane channel = lane_parts lane (wide_of (columns_of (length lane)))
+    (columns_of (length lane)) (unit_of (columns_of (length lane))) channel

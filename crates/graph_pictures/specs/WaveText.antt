@@ -1,19 +1,16 @@
--- The whole picture of a wave: an SVG of the lanes of its first two channels over a time axis.
+-- The whole picture of a wave: an SVG of the lanes of its channels over a time axis.
 -- Source: w3.org, "SVG 1.1". What is drawn is this project's own.
-use Rattle.std.specs.Prelude.{ℕ, ◌+◌, ◌*◌, ◌/◌, ◌%◌, nat_lt, if◌then◌else◌, List, [], ◌∷◌, ◌++◌, flat_map, codes, min}
+use Rattle.std.specs.Prelude.{ℕ, ◌+◌, ◌*◌, ◌/◌, ◌%◌, List, [], ◌∷◌, ◌++◌, flat_map, codes}
 use Rattle.std.specs.List.{range_with_len}
 use Rattle.wav_files.specs.declared.wav.Wav.{Wav}
 use Rattle.graph_pictures.specs.Template.{filled}
 use Rattle.graph_pictures.specs.WaveColumns.{frames_of, lane_of, columns_of}
-use Rattle.graph_pictures.specs.WaveLanes.{unit_of, lane_text}
+use Rattle.graph_pictures.specs.WaveLanes.{wide_of, lane_text}
 use Rattle.graph_pictures.specs.WaveTicks.{millis_of, axis}
 
--- how many channels are drawn, and where their lanes end
-abbrev pub lanes_of : ℕ → ℕ
-lanes_of channels = min channels 2
-
+-- where the lanes of so many channels end
 abbrev pub foot_of : ℕ → ℕ
-foot_of lanes = 28 + 300 * lanes
+foot_of channels = 28 + 300 * channels
 
 -- the size of the file whose lanes end here, how marks look, a white ground
 abbrev pub wave_size_text : ℕ → List ℕ
@@ -25,12 +22,8 @@ wave_size_text foot =
     (codes "<style>text{font:12px monospace}.n{text-anchor:end}.m{text-anchor:middle}\n") []
     ++ filled
     (codes ".t{stroke:gray;stroke-dasharray:1 3}.g{fill:whitesmoke}.z{stroke:silver}\n") []
-    ++ filled (codes ".k{fill:red}g{fill:steelblue}</style>") []
+    ++ filled (codes ".d{stroke:gainsboro}.k{fill:red}g{fill:steelblue}</style>") []
     ++ filled (codes "<path fill='white' d='M0 0H9999V9999H0z'/>\n") []
-
--- what is said of a wave of more than two channels
-unfoldable pub more_text : ℕ → List ℕ
-more_text channels = if nat_lt 2 channels then codes ", of which 2 are drawn" else []
 
 -- the wave in numbers
 abbrev pub wave_note_text : ℕ → ℕ → ℕ → ℕ → List ℕ
@@ -38,7 +31,6 @@ wave_note_text rate channels frames millis =
     filled (codes "<text x='8' y='16'>frames %, rate %, seconds %.%%%, channels %")
     (frames ∷ rate ∷ (millis / 1000) ∷ (millis / 100 % 10) ∷ (millis / 10 % 10)
     ∷ (millis % 10) ∷ channels ∷ [])
-    ++ more_text channels
 
 -- what a mark says, and the unit of the axis
 abbrev pub wave_legend_text : ℕ → List ℕ
@@ -50,20 +42,19 @@ wave_legend_text foot =
 -- what is before the lanes, and the lanes
 abbrev pub wave_head_text : Wav → List ℕ
 wave_head_text wav =
-    wave_size_text (foot_of (lanes_of wav.channels))
+    wave_size_text (foot_of wav.channels)
     ++ wave_note_text wav.rate wav.channels (frames_of wav) (millis_of (frames_of wav) wav.rate)
-    ++ wave_legend_text (foot_of (lanes_of wav.channels))
+    ++ wave_legend_text (foot_of wav.channels)
 
 abbrev pub channel_text : Wav → ℕ → List ℕ
 channel_text wav channel = lane_text (lane_of wav channel) channel
 
 abbrev pub lanes_text : Wav → List ℕ
-lanes_text wav = flat_map (channel_text wav) (range_with_len 0 (lanes_of wav.channels))
+lanes_text wav = flat_map (channel_text wav) (range_with_len 0 wav.channels)
 
 abbrev pub axis_text : Wav → List ℕ
-axis_text wav = axis wav.rate (frames_of wav)
-    (unit_of (columns_of (frames_of wav)) * columns_of (frames_of wav))
-    (foot_of (lanes_of wav.channels))
+axis_text wav = axis wav.rate (frames_of wav) (wide_of (columns_of (frames_of wav)))
+    (foot_of wav.channels)
 
 -- THE PICTURE of a wave
 unfoldable pub wave_text : Wav → List ℕ

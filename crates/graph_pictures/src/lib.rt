@@ -28,6 +28,7 @@ mod trace_text;
 mod wave_columns;
 mod wave_drawing;
 mod wave_lanes;
+mod wave_scale;
 mod wave_ticks;
 mod words;
 

@@ -1,7 +1,7 @@
 //! The columns of a wave.
 ghost use Rattle.std.specs.Prelude.{◌≡◌, ◌*◌, ◌/◌, ◌<◌, ◌≤◌, length, pos, slice_index_or, IfOk};
-ghost use Rattle.pw_lists.specs.Samples.{sample_at};
-ghost use Rattle.graph_pictures.specs.WaveColumns.{frames_of, lane_of, columns_of, column_of, least_of, greatest_of, depth_of, is_clipped};
+ghost use Rattle.pw_lists.specs.Samples.{sample_at, peak_of};
+ghost use Rattle.graph_pictures.specs.WaveColumns.{frames_of, lane_of, columns_of, column_of, least_of, greatest_of, depth_of, is_clipped, at_limit, clipped_of};
 ghost use Rattle.graph_pictures.specs.working.WaveSizes.{wave_frames_limit};
 ghost use Rattle.std.specs.Int.{int_max, int_min};
 
@@ -134,4 +134,29 @@ pub(crate) fn is_clipped(least: i16, greatest: i16) -> bool
     ensures { result ≡ is_clipped least greatest }
 {
     depth_of(least) == 65535 || depth_of(greatest) == 0
+}
+
+// Whether a sample is at a limit.
+fn at_limit(sample: i16) -> bool
+    ensures { result ≡ at_limit sample }
+{
+    is_clipped(sample, sample)
+}
+
+/// How many samples are at a limit of 16 bits.
+pub(crate) fn clipped_of(samples: &[i16]) -> usize
+    ensures { result ≡ clipped_of samples.now }
+{
+    samples.iter().filter(|sample| at_limit(**sample)).count()
+}
+
+/// The greatest absolute value of samples, 0 of no samples.
+pub(crate) fn peak_of(samples: &[i16]) -> u32
+    ensures { result ≡ peak_of samples.now }
+{
+    let mut top: u32 = 0;
+    for sample in samples {
+        top = top.max(u32::from(sample.unsigned_abs()));
+    }
+    top
 }

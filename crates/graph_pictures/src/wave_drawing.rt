@@ -1,37 +1,30 @@
 //! The picture of a wave.
-ghost use Rattle.std.specs.Prelude.{◌≡◌, ◌≤◌, ◌++◌, min, OnOk, IfOk};
+ghost use Rattle.std.specs.Prelude.{◌≡◌, ◌≤◌, ◌++◌, OnOk, IfOk};
+ghost use Rattle.pw_lists.specs.Limits.{channels_limit};
 ghost use Rattle.wav_files.specs.WavWriting.{IsWave};
 ghost use Rattle.graph_pictures.specs.WaveColumns.{frames_of};
-ghost use Rattle.graph_pictures.specs.WaveText.{lanes_of, foot_of, wave_size_text, wave_note_text, more_text, wave_legend_text, wave_head_text, channel_text, lanes_text, axis_text, wave_text};
+ghost use Rattle.graph_pictures.specs.WaveText.{foot_of, wave_size_text, wave_note_text, wave_legend_text, wave_head_text, channel_text, lanes_text, axis_text, wave_text};
 
 use crate::template::fill;
 use crate::wave_columns::{columns_of, frames_of, lane_of};
-use crate::wave_lanes::{put_lane, unit_of};
+use crate::wave_lanes::{put_lane, wide_of};
 use crate::wave_ticks::{millis_of, put_ticks};
 use pw_lists::{Items, Memory, Text};
 use std::alloc::Global;
 use wav_files::Wav;
 
-// How many channels are drawn.
-fn lanes_of(channels: u32) -> u32
-    ensures value { result ≡ lanes_of channels }
-    ensures within { result ≤ 2 }
-{
-    if channels < 2 { channels } else { 2 }
-}
-
 // Where the last lane ends.
-fn foot_of(lanes: u32) -> u64
-    requires { lanes ≤ 2 }
-    ensures value { result ≡ foot_of lanes }
-    ensures within { result ≤ 628 }
+fn foot_of(channels: u32) -> u64
+    requires { channels ≤ channels_limit }
+    ensures value { result ≡ foot_of channels }
+    ensures within { result ≤ 2428 }
 {
-    28 + 300 * u64::from(lanes)
+    28 + 300 * u64::from(channels)
 }
 
 // The size of the file, and how marks look.
 fn put_size(text: &mut Text, foot: u64) -> Result<(), Memory>
-    requires { foot ≤ 628 }
+    requires { foot ≤ 2428 }
     ensures { OnOk result (text.new ≡ text.old ++ wave_size_text foot) }
 {
     fill(
@@ -49,21 +42,13 @@ fn put_size(text: &mut Text, foot: u64) -> Result<(), Memory>
         b".t{stroke:gray;stroke-dasharray:1 3}.g{fill:whitesmoke}.z{stroke:silver}\n",
         &[],
     )?;
-    fill(text, b".k{fill:red}g{fill:steelblue}</style>", &[])?;
+    fill(
+        text,
+        b".d{stroke:gainsboro}.k{fill:red}g{fill:steelblue}</style>",
+        &[],
+    )?;
     fill(text, b"<path fill='white' d='M0 0H9999V9999H0z'/>\n", &[])?;
     Ok(())
-}
-
-// What is said of a wave of more than two channels.
-#[tactic(auto, unfolding(crate::specs::WaveText::more_text))]
-fn more_text(channels: u64) -> &'static [u8]
-    ensures { result.now ≡ more_text channels }
-{
-    if channels > 2 {
-        b", of which 2 are drawn".as_slice()
-    } else {
-        &[]
-    }
 }
 
 // The wave in numbers.
@@ -89,15 +74,13 @@ fn put_note(
             millis % 10,
             channels,
         ],
-    )?;
-    text.extend(more_text(channels))?;
-    Ok(())
+    )
 }
 
 // What a mark says, and the unit of the axis.
 #[tactic(auto, using(crate::proofs::Grown::texts))]
 fn put_legend(text: &mut Text, foot: u64) -> Result<(), Memory>
-    requires { foot ≤ 628 }
+    requires { foot ≤ 2428 }
     ensures { OnOk result (text.new ≡ text.old ++ wave_legend_text foot) }
 {
     fill(
@@ -119,7 +102,7 @@ fn put_head(text: &mut Text, wav: &Wav) -> Result<(), Memory>
     ensures { OnOk result (text.new ≡ text.old ++ wave_head_text wav.now) }
 {
     let frames = frames_of(wav) as u64;
-    let foot = foot_of(lanes_of(wav.channels));
+    let foot = foot_of(wav.channels);
     let rate = u64::from(wav.rate);
     let millis = millis_of(frames, rate);
     put_size(text, foot)?;
@@ -137,13 +120,13 @@ fn put_channel(alloc: Global, text: &mut Text, wav: &Wav, channel: u32) -> Resul
     put_lane(text, lane.as_slice(), u64::from(channel))
 }
 
-// The lanes of the first channels.
+// The lanes of the channels.
 #[tactic(auto, using(crate::proofs::RangeLemmas::ranges))]
 fn put_lanes(alloc: Global, text: &mut Text, wav: &Wav) -> Result<(), Memory>
     requires { IsWave wav.now }
     ensures { OnOk result (text.new ≡ text.old ++ lanes_text wav.now) }
 {
-    for channel in 0..lanes_of(wav.channels) {
+    for channel in 0..wav.channels {
         put_channel(alloc, text, wav, channel)?;
     }
     Ok(())
@@ -155,18 +138,19 @@ fn put_axis(text: &mut Text, wav: &Wav) -> Result<(), Memory>
     ensures { OnOk result (text.new ≡ text.old ++ axis_text wav.now) }
 {
     let frames = frames_of(wav);
-    let columns = columns_of(frames);
-    let wide = unit_of(columns) * columns as u64;
-    let foot = foot_of(lanes_of(wav.channels));
+    let wide = wide_of(columns_of(frames));
+    let foot = foot_of(wav.channels);
     put_ticks(text, u64::from(wav.rate), frames as u64, wide, foot)
 }
 
-/// The picture of a wave as an SVG: its first two channels, over a time axis in seconds.
+/// The picture of a wave as an SVG: a lane of each channel, over a time axis in seconds.
 ///
 /// A channel has 1,000 columns at most, and of fewer frames one a frame; column c of n frames has
 /// those from floor(c n / columns) on, up to floor((c + 1) n / columns). It is drawn from its
 /// greatest sample down to its least, 256 of the levels of 16 bits a point, and in another colour
-/// where a sample of it is 32767 or -32768. Takes memory for a channel's samples and for the text.
+/// where a sample of it is 32767 or -32768. Above a lane are the greatest size of its samples and
+/// how many are at these limits, right of it a scale in decibels below them. Takes memory for a
+/// channel's samples and for the text.
 #[tactic(auto, using(crate::proofs::Grown::texts), unfolding(crate::specs::WaveText::wave_text))]
 pub fn wave(alloc: Global, wav: &Wav) -> Result<Text, Memory>
     requires { IsWave wav.now }

@@ -2,11 +2,12 @@
 ghost use Rattle.std.specs.Prelude.{◌≡◌, ◌<◌, ◌≤◌, ◌++◌, length, flat_map, OnOk};
 ghost use Rattle.std.specs.List.{range_with_len};
 ghost use Rattle.pw_lists.specs.Limits.{channels_limit};
-ghost use Rattle.graph_pictures.specs.WaveLanes.{point_of, mark_text, bar_text, column_text, unit_of, ground_text, lane_parts, lane_text};
+ghost use Rattle.graph_pictures.specs.WaveLanes.{point_of, mark_text, bar_text, column_text, unit_of, wide_of, lane_parts, lane_text};
 ghost use Rattle.graph_pictures.specs.working.WaveSizes.{wave_frames_limit};
 
 use crate::template::fill;
 use crate::wave_columns::{column_of, columns_of, depth_of, greatest_of, is_clipped, least_of};
+use crate::wave_scale::{put_ground, put_scale, put_title};
 use pw_lists::{Memory, Text};
 
 // How far below the top of its lane a sample is.
@@ -61,28 +62,17 @@ pub(crate) fn unit_of(columns: usize) -> u64
     1000 / (if columns < 1 { 1 } else { columns as u64 })
 }
 
-// The ground of a lane.
-fn put_ground(text: &mut Text, wide: u64, channel: u64) -> Result<(), Memory>
-    requires { channel ≤ channels_limit }
-    ensures { OnOk result (text.new ≡ text.old ++ ground_text wide channel) }
+/// The width of a lane in points.
+pub(crate) fn wide_of(columns: usize) -> u64
+    requires { columns ≤ 1000 }
+    ensures value { result ≡ wide_of columns }
+    ensures within { result ≤ 1000 }
 {
-    let top = 72 + 300 * channel;
-    fill(
-        text,
-        b"<path class='g' d='M48 %h%v256h-%z'/><path class='z' d='M48 %h%'/>\n",
-        &[top, wide, wide, top + 127, wide],
-    )?;
-    fill(
-        text,
-        b"<text x='48' y='%'>channel %</text><text class='n' x='44' y='%'>1</text>",
-        &[top - 12, channel + 1, top + 10],
-    )?;
-    fill(
-        text,
-        b"<text class='n' x='44' y='%'>0</text><text class='n' x='44' y='%'>-1</text>\n",
-        &[top + 132, top + 256],
-    )?;
-    Ok(())
+    if columns == 0 {
+        1000
+    } else {
+        unit_of(columns) * columns as u64
+    }
 }
 
 // The columns of a lane.
@@ -99,26 +89,30 @@ fn put_columns(text: &mut Text, lane: &[i16], columns: usize) -> Result<(), Memo
     Ok(())
 }
 
-// A lane of `columns` columns, each `unit` points wide.
+// A lane of this width, of `columns` columns, each `unit` points wide.
 fn put_parts(
     text: &mut Text,
     lane: &[i16],
+    wide: u64,
     columns: usize,
     unit: u64,
     channel: u64,
 ) -> Result<(), Memory>
     requires frames { length lane.now ≤ wave_frames_limit }
+    requires wide { wide ≤ 1000 }
     requires columns { columns ≤ 1000 }
-    requires unit { unit ≤ 1000 }
     requires channel { channel ≤ channels_limit }
     ensures { OnOk result
-        (text.new ≡ text.old ++ lane_parts lane.now columns unit channel) }
+        (text.new ≡ text.old ++ lane_parts lane.now wide columns unit channel) }
 {
-    put_ground(text, unit * columns as u64, channel)?;
+    let top = 72 + 300 * channel;
+    put_ground(text, wide, top)?;
+    put_title(text, lane, channel)?;
+    put_scale(text, wide, top)?;
     fill(
         text,
         b"<g transform='translate(48,%) scale(%,1)'>\n",
-        &[72 + 300 * channel, unit],
+        &[top, unit],
     )?;
     put_columns(text, lane, columns)?;
     fill(text, b"</g>\n", &[])?;
@@ -132,5 +126,12 @@ pub(crate) fn put_lane(text: &mut Text, lane: &[i16], channel: u64) -> Result<()
     ensures { OnOk result (text.new ≡ text.old ++ lane_text lane.now channel) }
 {
     let columns = columns_of(lane.len());
-    put_parts(text, lane, columns, unit_of(columns), channel)
+    put_parts(
+        text,
+        lane,
+        wide_of(columns),
+        columns,
+        unit_of(columns),
+        channel,
+    )
 }

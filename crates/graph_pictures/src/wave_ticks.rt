@@ -93,7 +93,7 @@ fn place_of(rate: u64, frames: u64, wide: u64, millis: u64) -> u64
 // A rule at a place, and its time.
 #[tactic(auto, unfolding(crate::specs::WaveTicks::tick_text))]
 fn put_tick(text: &mut Text, foot: u64, place: u64, millis: u64) -> Result<(), Memory>
-    requires { foot ≤ 1000 }
+    requires { foot ≤ 2428 }
     ensures { OnOk result (text.new ≡ text.old ++ tick_text foot place millis) }
 {
     fill(
@@ -123,7 +123,7 @@ fn put_step(
 ) -> Result<(), Memory>
     requires rate { rate ≤ rate_limit }
     requires wide { wide ≤ 1000 }
-    requires foot { foot ≤ 1000 }
+    requires foot { foot ≤ 2428 }
     requires millis { millis ≤ 134217728000 }
     ensures { OnOk result (text.new ≡ text.old
         ++ tick_text foot (48 + place_of rate frames wide millis) millis) }
@@ -155,7 +155,7 @@ pub(crate) fn put_ticks(
     requires some { 0 < rate }
     requires rate { rate ≤ rate_limit }
     requires wide { wide ≤ 1000 }
-    requires foot { foot ≤ 1000 }
+    requires foot { foot ≤ 2428 }
     ensures { OnOk result (text.new ≡ text.old ++ axis rate frames wide foot) }
 {
     let millis = millis_of(frames, rate);
