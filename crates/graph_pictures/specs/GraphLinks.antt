@@ -1,51 +1,39 @@
--- Links of a graph as DOT edges, from the field of a port to that of another: they leave to the
--- east and enter from the west.
+-- Links of a graph as DOT edges, from the field of a port to that of another. They leave to the east
+-- and enter from the west; a way back goes over the nodes, or under them.
 -- Source: graphviz.org, "DOT Language", edges with ports and compass points.
-use Rattle.std.specs.Prelude.{ℕ, ◌==◌, ◌&&◌, ◌||◌, Bool, true, false, List, [], ◌∷◌, ◌++◌, codes, nat_lt}
-use Rattle.std.specs.Prelude.{Option, Some, None, filter_map, bytes_eq, if◌then◌else◌}
-use Rattle.std.specs.List.{list_any}
+use Rattle.std.specs.Prelude.{ℕ, ◌==◌, ◌&&◌, ◌||◌, Bool, true, false, List, [], ◌∷◌, ◌++◌, codes}
+use Rattle.std.specs.Prelude.{Option, Some, None, bytes_eq, if◌then◌else◌}
 use Rattle.pw_graph.specs.declared.ids.PortId.{PortId}
-use Rattle.pw_graph.specs.Pools.{is_same_port}
-use Rattle.graph_script.specs.declared.command.Command.{Command}
-use Rattle.graph_script.specs.declared.command.Command.TheVariants as C
-use Rattle.graph_script.specs.declared.script.Line.{Line}
-use Rattle.graph_pictures.specs.declared.outcomes.UnlinkLine.{UnlinkLine}
 use Rattle.graph_pictures.specs.declared.outcomes.LinkOutcomes.{LinkOutcomes}
 use Rattle.graph_pictures.specs.declared.refusals.Refusal.{Refusal}
 use Rattle.graph_pictures.specs.Escaping.{dot_escaped}
+use Rattle.graph_pictures.specs.LinkOutcomes.{is_late, is_unlinked, is_back}
 use Rattle.graph_pictures.specs.Template.{filled}
-use Rattle.graph_pictures.specs.Refusals.{link_numbers, told_links, refusals, refusal_at}
+use Rattle.graph_pictures.specs.Refusals.{refusal_at}
 
--- the node of an `async` line
-abbrev pub async_node : Command → Option ℕ
-async_node (C.Async node) = Some node
-async_node other = None
+-- the sides at which a link leaves its output and enters its input. A way back has the top, or the
+-- bottom where one of the ports has another one above it: the second input and the third port
+abbrev pub is_under : PortId → PortId → Bool
+is_under from to = to.port == 1 || from.port == 2
 
--- what an `unlink` line cuts, with the number of the line
-abbrev pub unlink_at : ℕ → Command → Option UnlinkLine
-unlink_at number (C.Unlink from to) = Some (record { line = number; from = from; to = to })
-unlink_at number other = None
+abbrev pub out_side : Bool → Bool → List ℕ
+out_side false under = codes ":e"
+out_side true false = codes ":n"
+out_side true true = codes ":s"
 
--- what becomes of links, by the lines of a script and of its run: the nodes at which they are late,
--- where they are cut, and which are refused
-abbrev pub outcomes_of : List Line → List (List ℕ) → LinkOutcomes
-outcomes_of lines run = record {
-  late = filter_map (λ l. async_node l.command) lines;
-  unlinks = filter_map (λ l. unlink_at l.line l.command) lines;
-  refused = refusals (link_numbers lines) (told_links run);
-}
+abbrev pub in_side : Bool → Bool → List ℕ
+in_side false under = codes ":w"
+in_side true false = codes ":n"
+in_side true true = codes ":s"
 
--- a link hands on what was made one cycle earlier: an `async` line names the node at an end of it
-abbrev pub is_late : LinkOutcomes → PortId → PortId → Bool
-is_late outcomes from to = list_any (λ n. n == from.node || n == to.node) outcomes.late
+-- the ends of a link, of which it is said whether it is drawn as a way back
+abbrev pub from_text : Bool → PortId → PortId → List ℕ
+from_text back from to =
+    filled (codes "n%:p%") (from.node ∷ from.port ∷ []) ++ out_side back (is_under from to)
 
--- the link of a line is cut: a later `unlink` line names its two ports
-abbrev pub unlinks_after : ℕ → PortId → PortId → UnlinkLine → Bool
-unlinks_after number from to unlink =
-    nat_lt number unlink.line && (is_same_port from unlink.from && is_same_port to unlink.to)
-
-abbrev pub is_unlinked : LinkOutcomes → ℕ → PortId → PortId → Bool
-is_unlinked outcomes number from to = list_any (unlinks_after number from to) outcomes.unlinks
+abbrev pub to_text : Bool → PortId → PortId → List ℕ
+to_text back from to =
+    filled (codes "n%:p%") (to.node ∷ to.port ∷ []) ++ in_side back (is_under from to)
 
 -- late links are dashed, those that are cut are grey
 abbrev pub style_text : Bool → Bool → List ℕ
@@ -54,24 +42,39 @@ style_text true false = codes " [style=dashed];\n"
 style_text false true = codes " [color=gray];\n"
 style_text true true = codes " [style=dashed, color=gray];\n"
 
+-- a link that is not refused; only a late one can go back
+abbrev pub made_text : LinkOutcomes → ℕ → PortId → PortId → List ℕ
+made_text outcomes number from to = codes "  "
+    ++ from_text (is_late outcomes from to && is_back from to) from to ++ codes " -> "
+    ++ to_text (is_late outcomes from to && is_back from to) from to
+    ++ style_text (is_late outcomes from to) (is_unlinked outcomes number from to)
+
 -- the cause of a refusal: keys of formats by their names
 abbrev pub cause_text : List ℕ → List ℕ
 cause_text cause = if bytes_eq cause (codes "65539") then codes "no common rate"
     else (if bytes_eq cause (codes "65540") then codes "no common channels"
     else dot_escaped cause)
 
--- refused links are grey dots, with their cause
-abbrev pub refused_text : List ℕ → List ℕ
-refused_text cause = codes " [style=dotted, color=gray, fontcolor=gray, fontsize=10, label=\""
+-- a link that is refused goes through a note with the cause, which covers what is under it
+abbrev pub note_text : ℕ → List ℕ → List ℕ
+note_text number cause =
+    filled (codes "  r% [shape=plaintext, style=filled, fillcolor=white, label=\"") (number ∷ [])
     ++ cause_text cause ++ codes "\"];\n"
 
-abbrev pub ending_text : LinkOutcomes → ℕ → PortId → PortId → Option Refusal → List ℕ
-ending_text outcomes number from to (Some refusal) = refused_text refusal.cause
-ending_text outcomes number from to None =
-    style_text (is_late outcomes from to) (is_unlinked outcomes number from to)
+-- and its two parts are grey dots
+abbrev pub refused_text : ℕ → Bool → PortId → PortId → List ℕ → List ℕ
+refused_text number back from to cause = note_text number cause
+    ++ codes "  " ++ from_text back from to
+    ++ filled (codes " -> r% [style=dotted, color=gray, arrowhead=none];\n  r% -> ")
+    (number ∷ number ∷ [])
+    ++ to_text back from to ++ codes " [style=dotted, color=gray];\n"
 
 -- THE STATEMENT of the link of a line
+abbrev pub told_text : LinkOutcomes → ℕ → PortId → PortId → Option Refusal → List ℕ
+told_text outcomes number from to (Some refusal) =
+    refused_text number (is_back from to) from to refusal.cause
+told_text outcomes number from to None = made_text outcomes number from to
+
 abbrev pub link_text : LinkOutcomes → ℕ → PortId → PortId → List ℕ
-link_text outcomes number from to =
-    filled (codes "  n%:p%:e -> n%:p%:w") (from.node ∷ from.port ∷ to.node ∷ to.port ∷ [])
-    ++ ending_text outcomes number from to (refusal_at outcomes.refused number)
+link_text outcomes number from to = told_text outcomes number from to
+    (refusal_at outcomes.refused number)

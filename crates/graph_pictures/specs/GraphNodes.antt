@@ -1,6 +1,8 @@
--- Nodes of a graph as DOT statements: a record with its inputs, its name and kind, and its outputs.
+-- Nodes of a graph as DOT statements: a record with its inputs, its name, kind and loop, and its
+-- outputs.
 -- Source: graphviz.org, "DOT Language", and "Node Shapes", record-based nodes.
 use Rattle.std.specs.Prelude.{ℕ, ◌-◌, nat_le, if◌then◌else◌, List, [], ◌∷◌, ◌++◌, length, take, drop, codes, pos}
+use Rattle.std.specs.Prelude.{Option, Some, None}
 use Rattle.graph_script.specs.declared.command.Command.{Command}
 use Rattle.graph_script.specs.declared.command.Command.TheVariants as C
 use Rattle.graph_script.specs.Printing.{node_word, list_word}
@@ -49,14 +51,20 @@ outputs_text (C.Map node channels list) = codes "|{<p1> out}"
 outputs_text (C.Split node) = codes "|{<p1> left|<p2> right}"
 outputs_text other = []
 
--- the middle of the record: the name of the node, and under it its kind
-abbrev pub middle_text : List (List ℕ) → ℕ → Command → List ℕ
-middle_text names node command =
+-- the loop that a node is bound to
+abbrev pub loop_text : Option ℕ → List ℕ
+loop_text None = []
+loop_text (Some k) = filled (codes "\\nloop %") (k ∷ [])
+
+-- the middle of the record: the name of the node, under it its kind, and under that its loop
+abbrev pub middle_text : List (List ℕ) → Option ℕ → ℕ → Command → List ℕ
+middle_text names at node command =
     dot_escaped (node_word names node) ++ filled (codes "\\n") [] ++ kind_text command
+    ++ loop_text at
 
 -- THE STATEMENT of a node
-abbrev pub node_text : List (List ℕ) → ℕ → Command → List ℕ
-node_text names node command =
+abbrev pub node_text : List (List ℕ) → Option ℕ → ℕ → Command → List ℕ
+node_text names at node command =
     filled (codes "  n% [label=\"{") (node ∷ []) ++ inputs_text command
-    ++ middle_text names node command ++ outputs_text command
+    ++ middle_text names at node command ++ outputs_text command
     ++ filled (codes "}\"];\n") []

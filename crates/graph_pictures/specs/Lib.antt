@@ -2,10 +2,12 @@ pub mod Bands
 pub mod Answers
 pub mod Cycles
 pub mod Escaping
+pub mod LinkOutcomes
 pub mod Template
 pub mod GraphLinks
 pub mod GraphNodes
 pub mod GraphText
+pub mod Legend
 pub mod Reading
 pub mod Refusals
 pub mod Rows

@@ -3,7 +3,7 @@
 -- Source: this project's own: the lines of `pipegraph run`, docs/FORMATS.md.
 use Rattle.std.specs.Prelude.{ℕ, ◌==◌, ◌||◌, Bool, List, codes, filter, if◌then◌else◌, slice_index_or}
 use Rattle.std.specs.Prelude.{[], Option, Some, None, filter_map, find}
-use Rattle.std.specs.List.{zip}
+use Rattle.std.specs.List.{zip, list_any}
 use Rattle.graph_script.specs.declared.command.Command.{Command}
 use Rattle.graph_script.specs.declared.command.Command.TheVariants as C
 use Rattle.graph_script.specs.declared.script.Line.{Line}
@@ -35,6 +35,10 @@ refusal_of number told = if begins told (codes "nolink ")
 -- what the lines of a run say of the links on lines of these numbers
 abbrev pub refusals : List ℕ → List (List ℕ) → List Refusal
 refusals numbers told = filter_map (λ p. refusal_of p.0 p.1) (zip numbers told)
+
+-- whether the link on the line of this number is refused
+abbrev pub is_refused : List Refusal → ℕ → Bool
+is_refused refused number = list_any (λ r. r.line == number) refused
 
 -- THE REFUSAL of the link on the line of this number, if there is one
 abbrev pub refusal_at : List Refusal → ℕ → Option Refusal

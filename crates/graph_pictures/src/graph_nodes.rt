@@ -3,7 +3,7 @@ ghost use Rattle.std.specs.Prelude.{◌≡◌, ◌-◌, ◌<◌, ◌++◌, ◌�
 ghost use Rattle.graph_pictures.specs.Template.{numbers_text};
 ghost use Rattle.graph_pictures.specs.Escaping.{dot_escaped};
 ghost use Rattle.graph_script.specs.Printing.{node_word, list_word};
-ghost use Rattle.graph_pictures.specs.GraphNodes.{file_text, kind_text, inputs_text, outputs_text, middle_text, node_text};
+ghost use Rattle.graph_pictures.specs.GraphNodes.{file_text, kind_text, inputs_text, outputs_text, loop_text, middle_text, node_text};
 
 use crate::escaping::put_dot;
 use crate::template::{fill, put_numbers};
@@ -160,29 +160,48 @@ fn outputs_text(command: &Command) -> &'static [u8]
     }
 }
 
-// Its name and its kind.
+// The loop that a node is bound to.
+fn put_loop(text: &mut Text, at: Option<u32>) -> Result<(), Memory>
+    ensures { OnOk result (text.new ≡ text.old ++ loop_text at) }
+{
+    match at {
+        None => Ok(()),
+        Some(k) => fill(text, b"\\nloop %", &[u64::from(k)]),
+    }
+}
+
+// Its name, its kind and its loop.
 #[tactic(auto, using(crate::proofs::Grown::texts))]
-fn put_middle(text: &mut Text, names: &[Text], node: u32, command: &Command) -> Result<(), Memory>
-    ensures { OnOk result (text.new ≡ text.old ++ middle_text names.now node command.now) }
+fn put_middle(
+    text: &mut Text,
+    names: &[Text],
+    at: Option<u32>,
+    node: u32,
+    command: &Command,
+) -> Result<(), Memory>
+    ensures { OnOk result (text.new ≡ text.old ++ middle_text names.now at node command.now) }
 {
     put_dot(text, name_of(names, node))?;
     fill(text, b"\\n", &[])?;
-    put_kind(text, command)
+    put_kind(text, command)?;
+    put_loop(text, at)
 }
 
-/// The statement of the node of this number, which a command makes.
+/// The statement of the node of this number, which a command makes and which is bound to a loop,
+/// or to none.
 #[tactic(auto, using(crate::proofs::Grown::texts))]
 pub(crate) fn put_node(
     text: &mut Text,
     names: &[Text],
+    at: Option<u32>,
     node: u32,
     command: &Command,
 ) -> Result<(), Memory>
-    ensures { OnOk result (text.new ≡ text.old ++ node_text names.now node command.now) }
+    ensures { OnOk result (text.new ≡ text.old ++ node_text names.now at node command.now) }
 {
     fill(text, b"  n% [label=\"{", &[u64::from(node)])?;
     text.extend(inputs_text(command))?;
-    put_middle(text, names, node, command)?;
+    put_middle(text, names, at, node, command)?;
     text.extend(outputs_text(command))?;
     fill(text, b"}\"];\n", &[])
 }

@@ -1,7 +1,8 @@
-//! What becomes of links: at which nodes they are late, where they are cut, and which are refused.
-ghost use Rattle.std.specs.Prelude.{◌≡◌, ◌++◌, option_to_list, IfOk, OnOk};
+//! What becomes of links and nodes: at which nodes links are late, where they are cut, which are
+//! refused, and the loops of nodes.
+ghost use Rattle.std.specs.Prelude.{◌≡◌, ◌++◌, fold, None, option_to_list, IfOk, OnOk};
 ghost use Rattle.cycle_trace.specs.TraceReading.{trace_lines};
-ghost use Rattle.graph_pictures.specs.GraphLinks.{async_node, unlink_at, outcomes_of, is_late, unlinks_after, is_unlinked};
+ghost use Rattle.graph_pictures.specs.LinkOutcomes.{async_node, unlink_at, placed_by, outcomes_of, is_late, unlinks_after, is_unlinked, is_back, loop_after, loop_of};
 
 use crate::refusals::{Refusal, link_numbers, refusals_of};
 use graph_script::{Command, Line};
@@ -17,11 +18,20 @@ pub struct UnlinkLine {
     pub to: PortId,
 }
 
-/// The nodes that an `async` line names, the `unlink` lines, and the links that a run refused.
+/// A node that a `loop` line binds, and the loop.
+#[derive(Clone, Copy, Drop)]
+pub struct Placed {
+    pub node: u32,
+    pub k: u32,
+}
+
+/// The nodes that an `async` line names, the `unlink` lines, the `loop` lines, and the links that
+/// a run refused.
 #[derive(Drop)]
 pub struct LinkOutcomes {
     pub late: Items<u32>,
     pub unlinks: Items<UnlinkLine>,
+    pub placed: Items<Placed>,
     pub refused: Items<Refusal>,
 }
 
@@ -49,6 +59,16 @@ fn unlink_at(number: u32, command: &Command) -> Option<UnlinkLine>
     }
 }
 
+// The node that a line binds to a loop.
+fn placed_by(command: &Command) -> Option<Placed>
+    ensures { result ≡ placed_by command.now }
+{
+    match command {
+        Command::Loop { node, k } => Some(Placed { node: *node, k: *k }),
+        _ => None,
+    }
+}
+
 /// One more, if there is one.
 pub(crate) fn push_some<T: Drop>(list: &mut Items<T>, item: Option<T>) -> Result<(), Memory>
     ensures { OnOk result (list.new ≡ list.old ++ option_to_list item) }
@@ -59,8 +79,8 @@ pub(crate) fn push_some<T: Drop>(list: &mut Items<T>, item: Option<T>) -> Result
     }
 }
 
-/// What becomes of the links of a script, by its lines and the text of its run. Takes memory for
-/// each `async`, `link` and `unlink` line.
+/// What becomes of the links and the nodes of a script, by its lines and the text of its run. Takes
+/// memory for each `async`, `link`, `loop` and `unlink` line.
 pub(crate) fn outcomes_of(alloc: Global, lines: &[Line], run: &[u8]) -> Result<LinkOutcomes, Memory>
     ensures { IfOk result (λ outcomes. outcomes ≡ outcomes_of lines.now (trace_lines run.now)) }
 {
@@ -68,17 +88,20 @@ pub(crate) fn outcomes_of(alloc: Global, lines: &[Line], run: &[u8]) -> Result<L
     let refused = refusals_of(alloc, numbers.as_slice(), run)?;
     let mut late = Items::new(alloc);
     let mut unlinks = Items::new(alloc);
+    let mut placed = Items::new(alloc);
     let mut rest = lines;
     loop {
         match rest {
             [] => return Ok(LinkOutcomes {
                 late,
                 unlinks,
+                placed,
                 refused,
             }),
             [line, more @ ..] => {
                 push_some(&mut late, async_node(&line.command))?;
                 push_some(&mut unlinks, unlink_at(line.line, &line.command))?;
+                push_some(&mut placed, placed_by(&line.command))?;
                 rest = more;
             }
         }
@@ -108,4 +131,40 @@ pub(crate) fn is_unlinked(outcomes: &LinkOutcomes, number: u32, from: PortId, to
     unlinks
         .iter()
         .any(|unlink| unlinks_after(*unlink, number, from, to))
+}
+
+/// Whether a link goes to a node that was made before the one that it is from, or to the same.
+pub(crate) fn is_back(from: PortId, to: PortId) -> bool
+    ensures { result ≡ is_back from to }
+{
+    to.node <= from.node
+}
+
+// The loop that a line names for a node, or else the one before.
+fn loop_after(node: u32, last: Option<u32>, placed: Placed) -> Option<u32>
+    ensures { result ≡ loop_after node last placed }
+{
+    if placed.node == node {
+        Some(placed.k)
+    } else {
+        last
+    }
+}
+
+// The last loop that lines name for a node.
+fn last_loop(placed: &[Placed], node: u32) -> Option<u32>
+    ensures { result ≡ fold (loop_after node) None placed.now }
+{
+    let mut last = None;
+    for line in placed {
+        last = loop_after(node, last, *line);
+    }
+    last
+}
+
+/// The loop that a node is bound to, if a line names one.
+pub(crate) fn loop_of(outcomes: &LinkOutcomes, node: u32) -> Option<u32>
+    ensures { result ≡ loop_of outcomes.now node }
+{
+    last_loop(outcomes.placed.as_slice(), node)
 }

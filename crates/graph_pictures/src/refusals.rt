@@ -2,7 +2,7 @@
 ghost use Rattle.std.specs.Prelude.{◌≡◌, [], ◌∷◌, ◌++◌, IfOk, MatchOption, option_copied, option_to_list, slice_index_or};
 ghost use Rattle.cycle_trace.specs.TraceReading.{trace_lines};
 ghost use Rattle.graph_script.specs.Lexical.{words_of};
-ghost use Rattle.graph_pictures.specs.Refusals.{link_at, link_numbers, tells_link, told_links, refusal_of, refusals, refusal_at};
+ghost use Rattle.graph_pictures.specs.Refusals.{link_at, link_numbers, tells_link, told_links, refusal_of, refusals, is_refused, refusal_at};
 
 use crate::outcomes::push_some;
 use crate::trace_text::{begins, next_line};
@@ -122,6 +122,13 @@ pub(crate) fn refusals_of(
         rest = more;
         left = behind;
     }
+}
+
+/// Whether the link on the line of this number is refused.
+pub(crate) fn is_refused(refused: &[Refusal], number: u32) -> bool
+    ensures { result ≡ is_refused refused.now number }
+{
+    refused.iter().any(|refusal| refusal.line == number)
 }
 
 /// The refusal of the link on the line of this number, if there is one.

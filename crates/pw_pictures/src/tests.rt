@@ -55,12 +55,12 @@ fn a_graph_shows_each_kind_and_link(rt: HostRuntime) -> Result<(), Fail> {
         driver o 7\ndriver l 3\nloop g 3\nasync d\nlink s.out g.in\nlink g.out m.a\nlink d.out m.b\nlink m.out d.in\n\
         unlink g.out m.a\nlink t.right o.in\noff q\non q\noff p\ncycles 2\n";
     let wanted = "digraph pipegraph {\n  rankdir=LR; ranksep=0.7; nodesep=0.4;\n\
-        \x20 fontname=\"sans-serif\"; fontsize=11;\n\
+        \x20 fontname=\"sans-serif\"; fontsize=11; outputorder=edgesfirst;\n\
         \x20 node [shape=record, fontname=\"sans-serif\", fontsize=12];\n\
         \x20 edge [arrowsize=0.7];\n\
         \x20 n0 [label=\"{s\\nsource a\\\"b\\\\\\{c\\}\\|\\<d\\>&amp;e.wav|{<p0> out}}\"];\n\
         \x20 n1 [label=\"{q\\nsquare 48000 2 100 8000|{<p0> out}}\"];\n\
-        \x20 n2 [label=\"{{<p0> in}|g\\ngain -128|{<p1> out}}\"];\n\
+        \x20 n2 [label=\"{{<p0> in}|g\\ngain -128\\nloop 3|{<p1> out}}\"];\n\
         \x20 n3 [label=\"{{<p0> a|<p1> b}|m\\nmix2 256 -1|{<p2> out}}\"];\n\
         \x20 n4 [label=\"{{<p0> in}|d\\ndelay 480|{<p1> out}}\"];\n\
         \x20 n5 [label=\"{{<p0> in}|p\\nmap 2 1,0|{<p1> out}}\"];\n\
@@ -69,17 +69,15 @@ fn a_graph_shows_each_kind_and_link(rt: HostRuntime) -> Result<(), Fail> {
         \x20 n8 [label=\"{{<p0> in}|l\\nmeter}\"];\n\
         \x20 subgraph cluster_7 { label=\"driver 7\"; n7; }\n\
         \x20 subgraph cluster_8 { label=\"driver 3\"; n8; }\n\
-        \x20 n2 [xlabel=\"loop 3\"];\n\
         \x20 n0:p0:e -> n2:p0:w;\n\
         \x20 n2:p1:e -> n3:p0:w [color=gray];\n\
-        \x20 n4:p1:e -> n3:p1:w [style=dashed];\n\
+        \x20 n4:p1:s -> n3:p1:s [style=dashed];\n\
         \x20 n3:p2:e -> n4:p0:w [style=dashed];\n\
         \x20 n6:p2:e -> n7:p0:w;\n\
         \x20 n1 [style=dotted];\n\
         \x20 n1 [style=solid];\n\
         \x20 n5 [style=dotted];\n\
         \x20 label=\"dashed: one end is async\\lgrey: a later line unlinks it\\l\
-        dotted and grey: the run refused it, and why\\l\
         frame: may drive, by its priority\\ldotted border: off at the end\\l\";\n\
         }\n";
     expect(&rt, "graph s", script, "", Status::Ok, wanted)?;
@@ -95,7 +93,7 @@ fn a_link_that_the_run_refused_is_grey_and_says_why(rt: HostRuntime) -> Result<(
     let run = "link a.out m.a 48000 1 2\nnolink b.out m.b 65539\nlink m.out o.in 48000 1 2\n\
         nolink m.out o.in twice\nnolink m.out m.b loop\nunlink m.out o.in\nbegin 0\nend 0\nwrote o 8\n";
     let wanted = "digraph pipegraph {\n  rankdir=LR; ranksep=0.7; nodesep=0.4;\n\
-        \x20 fontname=\"sans-serif\"; fontsize=11;\n\
+        \x20 fontname=\"sans-serif\"; fontsize=11; outputorder=edgesfirst;\n\
         \x20 node [shape=record, fontname=\"sans-serif\", fontsize=12];\n\
         \x20 edge [arrowsize=0.7];\n\
         \x20 n0 [label=\"{a\\nsquare 48000 1 4 9|{<p0> out}}\"];\n\
@@ -104,14 +102,20 @@ fn a_link_that_the_run_refused_is_grey_and_says_why(rt: HostRuntime) -> Result<(
         \x20 n3 [label=\"{{<p0> in}|o\\nsink o.wav}\"];\n\
         \x20 subgraph cluster_3 { label=\"driver 1\"; n3; }\n\
         \x20 n0:p0:e -> n2:p0:w;\n\
-        \x20 n1:p0:e -> n2:p1:w [style=dotted, color=gray, fontcolor=gray, fontsize=10, label=\"no common rate\"];\n\
+        \x20 r8 [shape=plaintext, style=filled, fillcolor=white, label=\"no common rate\"];\n\
+        \x20 n1:p0:e -> r8 [style=dotted, color=gray, arrowhead=none];\n\
+        \x20 r8 -> n2:p1:w [style=dotted, color=gray];\n\
         \x20 n2:p2:e -> n3:p0:w [color=gray];\n\
-        \x20 n2:p2:e -> n3:p0:w [style=dotted, color=gray, fontcolor=gray, fontsize=10, label=\"twice\"];\n\
-        \x20 n2:p2:e -> n2:p1:w [style=dotted, color=gray, fontcolor=gray, fontsize=10, label=\"loop\"];\n\
+        \x20 r10 [shape=plaintext, style=filled, fillcolor=white, label=\"twice\"];\n\
+        \x20 n2:p2:e -> r10 [style=dotted, color=gray, arrowhead=none];\n\
+        \x20 r10 -> n3:p0:w [style=dotted, color=gray];\n\
+        \x20 r11 [shape=plaintext, style=filled, fillcolor=white, label=\"loop\"];\n\
+        \x20 n2:p2:s -> r11 [style=dotted, color=gray, arrowhead=none];\n\
+        \x20 r11 -> n2:p1:s [style=dotted, color=gray];\n\
         \x20 n2:p2:e -> n3:p0:w;\n\
-        \x20 label=\"dashed: one end is async\\lgrey: a later line unlinks it\\l\
+        \x20 label=\"grey: a later line unlinks it\\l\
         dotted and grey: the run refused it, and why\\l\
-        frame: may drive, by its priority\\ldotted border: off at the end\\l\";\n\
+        frame: may drive, by its priority\\l\";\n\
         }\n";
     expect(&rt, "graph s t", script, run, Status::Ok, wanted)?;
     let bad = Status::Line { number: 2 };
@@ -126,8 +130,52 @@ fn a_link_that_the_run_refused_is_grey_and_says_why(rt: HostRuntime) -> Result<(
     Ok(())
 }
 
-// Two nodes, of which one may drive.
+// Two nodes.
 const TWO: &str = "quantum 4\nsquare a 48000 1 4 9\nsink o o.wav\nlink a.out o.in\ncycles 2\n";
+
+#[test]
+fn a_way_back_goes_over_or_under_the_nodes(rt: HostRuntime) -> Result<(), Fail> {
+    let script =
+        "quantum 4\nsquare s 48000 1 4 9\nmix2 m 256 256\ngain g 128\ndelay d 2\nsink o o.wav\n\
+        async g\noff g\nlink s.out m.a\nlink m.out d.in\nlink d.out g.in\nlink g.out m.b\nlink g.out d.in\n\
+        link m.out o.in\non g\ncycles 2\n";
+    let wanted = "digraph pipegraph {\n  rankdir=LR; ranksep=0.7; nodesep=0.4;\n\
+        \x20 fontname=\"sans-serif\"; fontsize=11; outputorder=edgesfirst;\n\
+        \x20 node [shape=record, fontname=\"sans-serif\", fontsize=12];\n\
+        \x20 edge [arrowsize=0.7];\n\
+        \x20 n0 [label=\"{s\\nsquare 48000 1 4 9|{<p0> out}}\"];\n\
+        \x20 n1 [label=\"{{<p0> a|<p1> b}|m\\nmix2 256 256|{<p2> out}}\"];\n\
+        \x20 n2 [label=\"{{<p0> in}|g\\ngain 128|{<p1> out}}\"];\n\
+        \x20 n3 [label=\"{{<p0> in}|d\\ndelay 2|{<p1> out}}\"];\n\
+        \x20 n4 [label=\"{{<p0> in}|o\\nsink o.wav}\"];\n\
+        \x20 n2 [style=dotted];\n\
+        \x20 n0:p0:e -> n1:p0:w;\n\
+        \x20 n1:p2:e -> n3:p0:w;\n\
+        \x20 n3:p1:n -> n2:p0:n [style=dashed];\n\
+        \x20 n2:p1:s -> n1:p1:s [style=dashed];\n\
+        \x20 n2:p1:e -> n3:p0:w [style=dashed];\n\
+        \x20 n1:p2:e -> n4:p0:w;\n\
+        \x20 n2 [style=solid];\n\
+        \x20 label=\"dashed: one end is async\\l\";\n\
+        }\n";
+    expect(&rt, "graph s", script, "", Status::Ok, wanted)?;
+    Ok(())
+}
+
+#[test]
+fn a_graph_without_marks_has_no_legend(rt: HostRuntime) -> Result<(), Fail> {
+    let wanted = "digraph pipegraph {\n  rankdir=LR; ranksep=0.7; nodesep=0.4;\n\
+        \x20 fontname=\"sans-serif\"; fontsize=11; outputorder=edgesfirst;\n\
+        \x20 node [shape=record, fontname=\"sans-serif\", fontsize=12];\n\
+        \x20 edge [arrowsize=0.7];\n\
+        \x20 n0 [label=\"{a\\nsquare 48000 1 4 9|{<p0> out}}\"];\n\
+        \x20 n1 [label=\"{{<p0> in}|o\\nsink o.wav}\"];\n\
+        \x20 n0:p0:e -> n1:p0:w;\n\
+        \x20 label=\"\";\n\
+        }\n";
+    expect(&rt, "graph s", TWO, "", Status::Ok, wanted)?;
+    Ok(())
+}
 
 #[test]
 fn a_timeline_shows_bars_and_late_checks(rt: HostRuntime) -> Result<(), Fail> {

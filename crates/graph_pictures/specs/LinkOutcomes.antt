@@ -1,0 +1,62 @@
+-- What the lines of a script and of its run say of links and nodes: at which nodes links are late,
+-- where links are cut, which are refused, and the loops of nodes.
+-- Source: this project's own.
+use Rattle.std.specs.Prelude.{ℕ, ◌==◌, ◌&&◌, ◌||◌, Bool, if◌then◌else◌, List, nat_lt, nat_le, fold, filter_map}
+use Rattle.std.specs.Prelude.{Option, Some, None}
+use Rattle.std.specs.List.{list_any}
+use Rattle.pw_graph.specs.declared.ids.PortId.{PortId}
+use Rattle.pw_graph.specs.Pools.{is_same_port}
+use Rattle.graph_script.specs.declared.command.Command.{Command}
+use Rattle.graph_script.specs.declared.command.Command.TheVariants as C
+use Rattle.graph_script.specs.declared.script.Line.{Line}
+use Rattle.graph_pictures.specs.declared.outcomes.UnlinkLine.{UnlinkLine}
+use Rattle.graph_pictures.specs.declared.outcomes.LinkOutcomes.{LinkOutcomes}
+use Rattle.graph_pictures.specs.declared.outcomes.Placed.{Placed}
+use Rattle.graph_pictures.specs.Refusals.{link_numbers, told_links, refusals}
+
+-- the node of an `async` line
+abbrev pub async_node : Command → Option ℕ
+async_node (C.Async node) = Some node
+async_node other = None
+
+-- what an `unlink` line cuts, with the number of the line
+abbrev pub unlink_at : ℕ → Command → Option UnlinkLine
+unlink_at number (C.Unlink from to) = Some (record { line = number; from = from; to = to })
+unlink_at number other = None
+
+-- the node of a `loop` line, and its loop
+abbrev pub placed_by : Command → Option Placed
+placed_by (C.Loop node k) = Some (record { node = node; k = k })
+placed_by other = None
+
+-- WHAT BECOMES of links and nodes, by the lines of a script and of its run
+abbrev pub outcomes_of : List Line → List (List ℕ) → LinkOutcomes
+outcomes_of lines run = record {
+  late = filter_map (λ l. async_node l.command) lines;
+  unlinks = filter_map (λ l. unlink_at l.line l.command) lines;
+  placed = filter_map (λ l. placed_by l.command) lines;
+  refused = refusals (link_numbers lines) (told_links run);
+}
+
+-- a link hands on what was made one cycle earlier: an `async` line names the node at an end of it
+abbrev pub is_late : LinkOutcomes → PortId → PortId → Bool
+is_late outcomes from to = list_any (λ n. n == from.node || n == to.node) outcomes.late
+
+-- the link of a line is cut: a later `unlink` line names its two ports
+abbrev pub unlinks_after : ℕ → PortId → PortId → UnlinkLine → Bool
+unlinks_after number from to cut =
+    nat_lt number cut.line && (is_same_port from cut.from && is_same_port to cut.to)
+
+abbrev pub is_unlinked : LinkOutcomes → ℕ → PortId → PortId → Bool
+is_unlinked outcomes number from to = list_any (unlinks_after number from to) outcomes.unlinks
+
+-- a link goes back: to a node that was made before the one that it is from, or to the same
+abbrev pub is_back : PortId → PortId → Bool
+is_back from to = nat_le to.node from.node
+
+-- the last loop that lines name for a node, if any does
+abbrev pub loop_after : ℕ → Option ℕ → Placed → Option ℕ
+loop_after node last placed = if placed.node == node then Some placed.k else last
+
+abbrev pub loop_of : LinkOutcomes → ℕ → Option ℕ
+loop_of outcomes node = fold (loop_after node) None outcomes.placed
