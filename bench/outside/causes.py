@@ -92,6 +92,20 @@ SCRIPTS = [
     ("TooMany", "meter m\n" + "drain\n" * 1025, 1026, " 6"),
     ("AsyncLate", LINKED + "async a", 4, "")]
 
+# What pipegraph-pictures says of it.
+SAID = {
+    "Byte": "a byte that no script may have", "Command": "the first word is no command",
+    "Arguments": "too few words, or too many",
+    "Number": "a number is out of range, or has the wrong form",
+    "NameForm": "a name, a port or a file word has the wrong form",
+    "NameTaken": "the name is taken", "NameUnknown": "no node has this name",
+    "PortUnknown": "the node has no such port",
+    "QuantumLate": "quantum comes before every other command",
+    "NotDriverKind": "only a sink or a meter may drive",
+    "OfferLate": "offers come before the links of their node", "TooMany 5": "more than 63 nodes",
+    "TooMany 6": "more than 1024 lines of cycles and drain",
+    "AsyncLate": "async comes before the links of its node"}
+
 # A list of gains, its fault, the line at fault and what is said of it.
 LISTS = [
     ("Words", "0 1\n1 2 3\n", 2, "a line has two words, FRAME GAIN, and a comment its own line"),
@@ -155,8 +169,7 @@ def scripts_at_fault(place):
             place.expect(f"{words[0]}: {name}", words, 2, line + "\n")
         for words in [["graph", "bad.graph"], ["graph", "bad.graph", "no.trace"],
                       ["timeline", "bad.graph", "no.trace"]]:
-            refused(place, words, 2, line,
-                    f"bad.graph:{at}: pipegraph refuses this line too, and says why", PICTURES)
+            refused(place, words, 2, line, f"bad.graph:{at}: {SAID[name + which]}", PICTURES)
 
 
 def waves(place):

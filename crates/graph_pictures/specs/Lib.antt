@@ -11,6 +11,7 @@ pub mod Legend
 pub mod Reading
 pub mod Refusals
 pub mod Rows
+pub mod ScriptSentences
 pub mod Sentences
 pub mod StatusText
 pub mod Statuses

@@ -4,12 +4,14 @@
 use Rattle.std.specs.Prelude.{ℕ, ◌==◌, ◌||◌, nat_lt, if◌then◌else◌, List, [], ◌∷◌, ◌++◌, map, codes, slice_index_or}
 use Rattle.pw_lists.specs.declared.limit.Which.{Which}
 use Rattle.pw_lists.specs.declared.limit.Which.TheVariants as W
+use Rattle.graph_script.specs.declared.fault.ScriptWhy.{ScriptWhy}
 use Rattle.wav_files.specs.declared.fault.WavFault.{WavFault}
 use Rattle.wav_files.specs.declared.fault.WavFault.TheVariants as F
 use Rattle.graph_pictures.specs.declared.status.Status.{Status}
 use Rattle.graph_pictures.specs.declared.status.Status.TheVariants as S
 use Rattle.graph_pictures.specs.Template.{filled}
 use Rattle.graph_pictures.specs.Reading.{trace_place}
+use Rattle.graph_pictures.specs.ScriptSentences.{why_said}
 
 -- a byte as a terminal may show it: what ASCII does not print is a question mark
 abbrev pub shown_byte : ℕ → ℕ
@@ -50,6 +52,10 @@ abbrev pub of_file : List ℕ → List (List ℕ) → ℕ → List ℕ → List 
 of_file front words place said =
     codes "pipegraph-pictures: " ++ front ++ file_said words place ++ said
 
+-- a line of a script that is refused
+abbrev pub of_script : List (List ℕ) → ℕ → ScriptWhy → List ℕ
+of_script words line why = of_file [] words 0 (filled (codes ":%: ") (line ∷ [])) ++ why_said why
+
 -- a trace that has not the cycle of the word at an index
 abbrev pub of_cycle : List (List ℕ) → ℕ → List ℕ
 of_cycle words word = of_file [] words trace_place (codes ": it has no event of cycle ")
@@ -59,9 +65,7 @@ of_cycle words word = of_file [] words trace_place (codes ": it has no event of 
 unfoldable pub explained : List (List ℕ) → Status → List ℕ
 explained words S.Ok = []
 explained words (S.Usage word) = usage_said
-explained words (S.Script line why) =
-    of_file [] words 0
-    (filled (codes ":%: pipegraph refuses this line too, and says why\n") (line ∷ []))
+explained words (S.Script line why) = of_script words line why
 explained words (S.Line number) =
     of_file [] words trace_place (filled (codes ":%: no line of a run\n") (number ∷ []))
 explained words (S.NoCycle word) = of_cycle words word

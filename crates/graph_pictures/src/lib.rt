@@ -21,6 +21,7 @@ mod outcomes;
 mod reading;
 mod refusals;
 mod rows;
+mod script_sentences;
 mod sentences;
 mod status;
 mod strip;

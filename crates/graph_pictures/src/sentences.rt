@@ -1,10 +1,12 @@
 //! Sentences for people.
 ghost use Rattle.std.specs.Prelude.{◌≡◌, ◌++◌, ◌∷◌, [], map, string_bytes, slice_index_or, IfOk, OnOk};
 ghost use Rattle.graph_pictures.specs.Template.{filled};
-ghost use Rattle.graph_pictures.specs.Sentences.{shown_byte, file_word, wav_said, bytes_said, usage_said, of_file, of_cycle, explained};
+ghost use Rattle.graph_pictures.specs.Sentences.{shown_byte, file_word, wav_said, bytes_said, usage_said, of_file, of_script, of_cycle, explained};
 
+use crate::script_sentences::why_said;
 use crate::status::Status;
 use crate::template::fill;
+use graph_script::ScriptWhy;
 use pw_lists::{Items, Memory, Text, Which};
 use std::alloc::Global;
 use wav_files::WavFault;
@@ -114,6 +116,22 @@ fn put_of_line(
     put_of_file(text, &[], words, place, said.as_slice())
 }
 
+// A sentence about a line of a script that is refused.
+fn put_of_script(
+    alloc: Global,
+    text: &mut Text,
+    words: &[String],
+    line: u64,
+    why: ScriptWhy,
+) -> Result<(), Memory>
+    ensures { OnOk result
+        (text.new ≡ text.old ++ of_script (map string_bytes words.now) line why) }
+{
+    put_of_line(alloc, text, words, 0, line, b":%: ")?;
+    text.extend(why_said(why))?;
+    Ok(())
+}
+
 // The word at an index, as a terminal may show it.
 fn put_word(text: &mut Text, words: &[String], index: u32) -> Result<(), Memory>
     ensures { OnOk result (text.new ≡ text.old
@@ -162,14 +180,7 @@ fn put_sentence(
     match status {
         Status::Ok => Ok(()),
         Status::Usage { .. } => put_usage(text),
-        Status::Script { line, .. } => put_of_line(
-            alloc,
-            text,
-            words,
-            0,
-            u64::from(line),
-            b":%: pipegraph refuses this line too, and says why\n",
-        ),
+        Status::Script { line, why } => put_of_script(alloc, text, words, u64::from(line), why),
         Status::Line { number } => put_of_line(
             alloc,
             text,

@@ -567,7 +567,7 @@ fn a_refusal_has_a_sentence_for_people(rt: HostRuntime) -> Result<(), Fail> {
                 line: 2,
                 why: ScriptWhy::QuantumLate,
             },
-            "pipegraph-pictures: s:2: pipegraph refuses this line too, and says why\n",
+            "pipegraph-pictures: s:2: quantum comes before every other command\n",
         ),
         (
             "timeline s t",
@@ -615,6 +615,54 @@ fn a_refusal_has_a_sentence_for_people(rt: HostRuntime) -> Result<(), Fail> {
     ];
     for (line, status, wanted) in table {
         expect_sentence(&rt, line, status, wanted)?;
+    }
+    Ok(())
+}
+
+#[test]
+fn a_refused_line_of_a_script_says_why(rt: HostRuntime) -> Result<(), Fail> {
+    let rows = [
+        (ScriptWhy::Byte, "a byte that no script may have"),
+        (ScriptWhy::Command, "the first word is no command"),
+        (ScriptWhy::Arguments, "too few words, or too many"),
+        (
+            ScriptWhy::Number,
+            "a number is out of range, or has the wrong form",
+        ),
+        (
+            ScriptWhy::NameForm,
+            "a name, a port or a file word has the wrong form",
+        ),
+        (ScriptWhy::NameTaken, "the name is taken"),
+        (ScriptWhy::NameUnknown, "no node has this name"),
+        (ScriptWhy::PortUnknown, "the node has no such port"),
+        (
+            ScriptWhy::QuantumLate,
+            "quantum comes before every other command",
+        ),
+        (ScriptWhy::NotDriverKind, "only a sink or a meter may drive"),
+        (
+            ScriptWhy::OfferLate,
+            "offers come before the links of their node",
+        ),
+        (ScriptWhy::TooMany(Which::Nodes), "more than 63 nodes"),
+        (
+            ScriptWhy::TooMany(Which::Epochs),
+            "more than 1024 lines of cycles and drain",
+        ),
+        (
+            ScriptWhy::AsyncLate,
+            "async comes before the links of its node",
+        ),
+    ];
+    for (why, said) in rows {
+        let alloc = rt.alloc();
+        let mut wanted = text(alloc, "pipegraph-pictures: s:7: ")?;
+        wanted.extend(said.as_bytes())?;
+        wanted.extend(b"\n")?;
+        let words = words_of(alloc, "graph s")?;
+        let sentence = explain(alloc, words.as_slice(), Status::Script { line: 7, why })?;
+        assert!(rt; sentence.as_slice() == wanted.as_slice(), "{said}");
     }
     Ok(())
 }
@@ -746,7 +794,7 @@ fn a_sentence_goes_to_the_error_output_alone(rt: HostRuntime) -> Result<(), Fail
     comes_to(&rt, Ok(wave), None, 5, "absent 1\n", absent)?;
     let wave = words_of(alloc, "wave w")?;
     comes_to(&rt, Ok(wave), Some(9), 5, "absent 1\n", "pipegraph")?;
-    let refused = "pipegraph-pictures: g:1: pipegraph refuses this line too, and says why\n";
+    let refused = "pipegraph-pictures: g:1: a number is out of range, or has the wrong form\n";
     let graph = words_of(alloc, "graph g")?;
     comes_to(&rt, Ok(graph), None, 2, "script 1 4\n", refused)?;
     Ok(())

@@ -4,7 +4,7 @@ use Rattle.graph_pictures.proofs.sentences.put_sentence.Goals as goal
 pub returns-in-Script : goal.returns-in-Script
 unfolding explained
 returns-in-Script c =
-    let said = rw c.from.ensures at c.put_of_line.ensures in
+    let said = rw c.from.ensures at c.put_of_script.ensures in
     rw c.in-Script.is said
 
 pub returns-in-Memory : goal.returns-in-Memory

@@ -1,0 +1,38 @@
+//! Why a line of a script is refused, in words.
+ghost use Rattle.std.specs.Prelude.{◌≡◌};
+ghost use Rattle.graph_pictures.specs.ScriptSentences.{many_said, why_said};
+
+use graph_script::ScriptWhy;
+use pw_lists::Which;
+
+// Of what a script has too much.
+fn many_said(which: Which) -> &'static [u8]
+    ensures { result.now ≡ many_said which }
+{
+    match which {
+        Which::Nodes => b"more than 63 nodes\n",
+        Which::Epochs => b"more than 1024 lines of cycles and drain\n",
+        _ => b"more than a script may have\n",
+    }
+}
+
+/// The cause in words.
+pub(crate) fn why_said(why: ScriptWhy) -> &'static [u8]
+    ensures { result.now ≡ why_said why }
+{
+    match why {
+        ScriptWhy::Byte => b"a byte that no script may have\n",
+        ScriptWhy::Command => b"the first word is no command\n",
+        ScriptWhy::Arguments => b"too few words, or too many\n",
+        ScriptWhy::Number => b"a number is out of range, or has the wrong form\n",
+        ScriptWhy::NameForm => b"a name, a port or a file word has the wrong form\n",
+        ScriptWhy::NameTaken => b"the name is taken\n",
+        ScriptWhy::NameUnknown => b"no node has this name\n",
+        ScriptWhy::PortUnknown => b"the node has no such port\n",
+        ScriptWhy::QuantumLate => b"quantum comes before every other command\n",
+        ScriptWhy::NotDriverKind => b"only a sink or a meter may drive\n",
+        ScriptWhy::OfferLate => b"offers come before the links of their node\n",
+        ScriptWhy::TooMany(which) => many_said(which),
+        ScriptWhy::AsyncLate => b"async comes before the links of its node\n",
+    }
+}
