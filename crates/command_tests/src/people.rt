@@ -11,17 +11,17 @@ use std::thread::Threads;
 /// A line of words over s.graph and other files, the number that it ends with, its text, and its
 /// sentence without the program's name.
 #[derive(Clone, Copy, Drop)]
-struct Asked {
-    line: &'static str,
-    script: &'static [u8],
-    files: &'static [FileRow<'static>],
-    code: u8,
-    out: &'static [u8],
-    said: &'static [u8],
+pub(crate) struct Asked {
+    pub line: &'static str,
+    pub script: &'static [u8],
+    pub files: &'static [FileRow<'static>],
+    pub code: u8,
+    pub out: &'static [u8],
+    pub said: &'static [u8],
 }
 
 /// A run of a script with a source.
-const RUN: Asked = Asked {
+pub(crate) const RUN: Asked = Asked {
     line: "run s.graph",
     script: b"",
     files: &[S_WAV],
@@ -537,7 +537,7 @@ const NAMES: &'static [Asked] = &[
 ];
 
 // Standard error with a sentence, and what follows it; nothing without one.
-fn wanted(alloc: Global, said: &[u8], after: &[u8]) -> Result<Items<u8>, Memory> {
+pub(crate) fn wanted(alloc: Global, said: &[u8], after: &[u8]) -> Result<Items<u8>, Memory> {
     let mut text = Items::new(alloc);
     for part in [b"pipegraph: ".as_slice(), said, b"\n".as_slice(), after] {
         text.extend(part)?;
@@ -546,7 +546,7 @@ fn wanted(alloc: Global, said: &[u8], after: &[u8]) -> Result<Items<u8>, Memory>
 }
 
 // Whether words over a script and the files of a row end as it says, with this on standard error.
-fn ends_so<R: Threads + Wait + Sync + AllocGlobal>(
+pub(crate) fn ends_so<R: Threads + Wait + Sync + AllocGlobal>(
     rt: &R,
     words: &[String],
     script: &[u8],
@@ -608,7 +608,7 @@ fn notes_and_odd_names_are_shown(rt: HostRuntime) {
 }
 
 /// Words that are no command line.
-const USAGE: Asked = Asked {
+pub(crate) const USAGE: Asked = Asked {
     code: 1,
     files: &[],
     ..RUN
@@ -745,7 +745,7 @@ const USAGES: &'static [Asked] = &[
 ];
 
 /// The words of all commands.
-const SYNOPSIS: &'static [u8] = b"usage: pipegraph run SCRIPT [--loops N] [--ticks N] \
+pub(crate) const SYNOPSIS: &'static [u8] = b"usage: pipegraph run SCRIPT [--loops N] [--ticks N] \
     [--trace] [--steal]\n\
     \x20      pipegraph dump FILE\n\
     \x20      pipegraph filter A B OUT\n\
@@ -757,88 +757,4 @@ const SYNOPSIS: &'static [u8] = b"usage: pipegraph run SCRIPT [--loops N] [--tic
 #[test]
 fn wrong_command_lines_have_their_sentences(rt: HostRuntime) {
     assert_eq!(rt; first_unlike(&rt, USAGES, SYNOPSIS), None);
-}
-
-// A word of one letter, then another as often as said.
-fn long_word(alloc: Global, first: &str, letter: &str, count: u32) -> Result<String, Memory> {
-    let mut word = String::from_str(alloc, first)?;
-    for _ in 0..count {
-        word.push_str(letter)?;
-    }
-    Ok(word)
-}
-
-// Whether `pipegraph` with only this long word says this of its beginning.
-fn is_cut<R: Threads + Wait + Sync + AllocGlobal>(
-    rt: &R,
-    word: String,
-    shown: &str,
-    after: &str,
-) -> Result<bool, Memory> {
-    let alloc = rt.alloc();
-    let mut said = Items::from_slice(alloc, b"\"".as_slice())?;
-    said.extend(shown.as_bytes())?;
-    said.extend(after.as_bytes())?;
-    let errors = wanted(alloc, said.as_slice(), SYNOPSIS)?;
-    let mut words = Items::new(alloc);
-    words.push(word)?;
-    let asked = Asked {
-        out: b"usage 0\n",
-        ..USAGE
-    };
-    ends_so(rt, words.as_slice(), b"", asked, errors.as_slice())
-}
-
-// Whether `pipegraph run s.graph` says this of the beginning of a long name in a script.
-fn is_cut_in_script<R: Threads + Wait + Sync + AllocGlobal>(
-    rt: &R,
-    name: &str,
-    shown: &str,
-) -> Result<bool, Memory> {
-    let alloc = rt.alloc();
-    let mut script = Items::from_slice(alloc, b"gain a 1\non ".as_slice())?;
-    script.extend(name.as_bytes())?;
-    let mut said = Items::from_slice(alloc, b"s.graph:2: \"".as_slice())?;
-    said.extend(shown.as_bytes())?;
-    said.extend(
-        b"..\": a name is a lower-case letter and up to 30 of a to z, 0 to 9 and _".as_slice(),
-    )?;
-    let errors = wanted(alloc, said.as_slice(), b"")?;
-    let words = words_of(alloc, "run s.graph")?;
-    let asked = Asked {
-        out: b"script 2 5\n",
-        ..RUN
-    };
-    ends_so(
-        rt,
-        words.as_slice(),
-        script.as_slice(),
-        asked,
-        errors.as_slice(),
-    )
-}
-
-// Whether long words are cut between two characters.
-fn are_cut<R: Threads + Wait + Sync + AllocGlobal>(rt: &R) -> Result<bool, Memory> {
-    let alloc = rt.alloc();
-    let cut = "..\" is no command";
-    let whole = long_word(alloc, "", "z", 200)?;
-    let long = long_word(alloc, "", "z", 100000)?;
-    let two = long_word(alloc, "a", "\u{e9}", 200)?;
-    let four = long_word(alloc, "a", "\u{1f3b5}", 100)?;
-    let two_shown = long_word(alloc, "a", "\u{e9}", 99)?;
-    let four_shown = long_word(alloc, "a", "\u{1f3b5}", 49)?;
-    let shown = whole.clone()?;
-    Ok(
-        is_cut_in_script(rt, long.as_str(), shown.as_str())?
-            && is_cut(rt, whole, shown.as_str(), "\" is no command")?
-            && is_cut(rt, long, shown.as_str(), cut)?
-            && is_cut(rt, two, two_shown.as_str(), cut)?
-            && is_cut(rt, four, four_shown.as_str(), cut)?,
-    )
-}
-
-#[test]
-fn long_words_are_cut(rt: HostRuntime) {
-    assert!(rt; matches!(are_cut(&rt), Ok(true)));
 }
