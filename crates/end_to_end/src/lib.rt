@@ -1,5 +1,5 @@
-//! Tests of the commands that run a graph, `run`, `groups` and `soak`, over files and an output in
-//! memory. There is nothing else here.
+//! Tests of the commands that run a graph, `run`, `groups` and `soak`, and of what a call finds
+//! beside its report, over files and an output in memory. There is nothing else here.
 #![tactic(auto)]
 
 #[cfg(test)]
@@ -20,6 +20,8 @@ mod long_files;
 mod long_runs;
 #[cfg(test)]
 mod offers;
+#[cfg(test)]
+mod reasons;
 #[cfg(test)]
 mod refusals;
 #[cfg(test)]
