@@ -45,8 +45,8 @@ style_text true true = codes " [style=dashed, color=gray];\n"
 -- a link that is not refused; only a late one can go back
 abbrev pub made_text : LinkOutcomes → ℕ → PortId → PortId → List ℕ
 made_text outcomes number from to = codes "  "
-    ++ from_text (is_late outcomes from to && is_back from to) from to ++ codes " -> "
-    ++ to_text (is_late outcomes from to && is_back from to) from to
+    ++ from_text (is_late outcomes from to && is_back outcomes from to) from to ++ codes " -> "
+    ++ to_text (is_late outcomes from to && is_back outcomes from to) from to
     ++ style_text (is_late outcomes from to) (is_unlinked outcomes number from to)
 
 -- the cause of a refusal: keys of formats by their names
@@ -72,7 +72,7 @@ refused_text number back from to cause = note_text number cause
 -- THE STATEMENT of the link of a line
 abbrev pub told_text : LinkOutcomes → ℕ → PortId → PortId → Option Refusal → List ℕ
 told_text outcomes number from to (Some refusal) =
-    refused_text number (is_back from to) from to refusal.cause
+    refused_text number (is_back outcomes from to) from to refusal.cause
 told_text outcomes number from to None = made_text outcomes number from to
 
 abbrev pub link_text : LinkOutcomes → ℕ → PortId → PortId → List ℕ

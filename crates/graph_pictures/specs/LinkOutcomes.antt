@@ -11,6 +11,7 @@ use Rattle.graph_script.specs.declared.command.Command.TheVariants as C
 use Rattle.graph_script.specs.declared.script.Line.{Line}
 use Rattle.graph_pictures.specs.declared.outcomes.UnlinkLine.{UnlinkLine}
 use Rattle.graph_pictures.specs.declared.outcomes.LinkOutcomes.{LinkOutcomes}
+use Rattle.graph_pictures.specs.declared.outcomes.Joined.{Joined}
 use Rattle.graph_pictures.specs.declared.outcomes.Placed.{Placed}
 use Rattle.graph_pictures.specs.Refusals.{link_numbers, told_links, refusals}
 
@@ -29,12 +30,18 @@ abbrev pub placed_by : Command → Option Placed
 placed_by (C.Loop node k) = Some (record { node = node; k = k })
 placed_by other = None
 
+-- the two nodes of a `link` line
+abbrev pub joined_by : Command → Option Joined
+joined_by (C.Link from to) = Some (record { from = from.node; to = to.node })
+joined_by other = None
+
 -- WHAT BECOMES of links and nodes, by the lines of a script and of its run
 abbrev pub outcomes_of : List Line → List (List ℕ) → LinkOutcomes
 outcomes_of lines run = record {
   late = filter_map (λ l. async_node l.command) lines;
   unlinks = filter_map (λ l. unlink_at l.line l.command) lines;
   placed = filter_map (λ l. placed_by l.command) lines;
+  joined = filter_map (λ l. joined_by l.command) lines;
   refused = refusals (link_numbers lines) (told_links run);
 }
 
@@ -50,9 +57,12 @@ unlinks_after number from to cut =
 abbrev pub is_unlinked : LinkOutcomes → ℕ → PortId → PortId → Bool
 is_unlinked outcomes number from to = list_any (unlinks_after number from to) outcomes.unlinks
 
--- a link goes back: to a node that was made before the one that it is from, or to the same
-abbrev pub is_back : PortId → PortId → Bool
-is_back from to = nat_le to.node from.node
+-- a link goes back: it enters a node that some link leaves, and leaves one that some link enters,
+-- and the node that it enters was made before the other, or is the same
+abbrev pub is_back : LinkOutcomes → PortId → PortId → Bool
+is_back outcomes from to = nat_le to.node from.node
+    && (list_any (λ j. j.from == to.node) outcomes.joined
+    && list_any (λ j. j.to == from.node) outcomes.joined)
 
 -- the last loop that lines name for a node, if any does
 abbrev pub loop_after : ℕ → Option ℕ → Placed → Option ℕ

@@ -105,8 +105,8 @@ fn put_lines(
 /// The graph of a script in Graphviz's DOT, from left to right.
 ///
 /// Each line is drawn: a node with its ports, its name, its kind and its last loop; a link from
-/// port to port, a late one dashed, one that a later line cuts grey; a late one to a node that was
-/// made before goes over the nodes or under them; a second border for a driver candidate, with its
+/// port to port, a late one dashed, one that a later line cuts grey; a late one that goes back, to
+/// a node that was made before, goes over the nodes or under them; a second border for a driver candidate, with its
 /// last priority; a border of dots for a node that is off at the end. `run` is the text that a run
 /// of the script printed, or nothing: a link that it refused is dotted and grey, through a note
 /// with the cause. Of a file's name of more than 32 bytes the middle is left out. Lines of offers,

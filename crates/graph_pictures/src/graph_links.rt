@@ -84,7 +84,7 @@ fn put_made(
     ensures { OnOk result (text.new ≡ text.old ++ made_text outcomes.now number from to) }
 {
     let late = is_late(outcomes, from, to);
-    let back = late && is_back(from, to);
+    let back = late && is_back(outcomes, from, to);
     text.extend(b"  ")?;
     put_from(text, back, from, to)?;
     text.extend(b" -> ")?;
@@ -160,7 +160,7 @@ fn put_told(
         Some(refusal) => put_refused(
             text,
             u64::from(number),
-            is_back(from, to),
+            is_back(outcomes, from, to),
             from,
             to,
             refusal.cause.as_slice(),

@@ -1,8 +1,9 @@
 //! What becomes of links and nodes: at which nodes links are late, where they are cut, which are
 //! refused, and the loops of nodes.
-ghost use Rattle.std.specs.Prelude.{◌≡◌, ◌++◌, fold, None, option_to_list, IfOk, OnOk};
+ghost use Rattle.std.specs.Prelude.{◌≡◌, ◌==◌, ◌++◌, fold, filter_map, None, option_to_list, IfOk, OnOk};
+ghost use Rattle.std.specs.List.{list_any};
 ghost use Rattle.cycle_trace.specs.TraceReading.{trace_lines};
-ghost use Rattle.graph_pictures.specs.LinkOutcomes.{async_node, unlink_at, placed_by, outcomes_of, is_late, unlinks_after, is_unlinked, is_back, loop_after, loop_of};
+ghost use Rattle.graph_pictures.specs.LinkOutcomes.{async_node, unlink_at, placed_by, joined_by, outcomes_of, is_late, unlinks_after, is_unlinked, is_back, loop_after, loop_of};
 
 use crate::refusals::{Refusal, link_numbers, refusals_of};
 use graph_script::{Command, Line};
@@ -25,13 +26,21 @@ pub struct Placed {
     pub k: u32,
 }
 
-/// The nodes that an `async` line names, the `unlink` lines, the `loop` lines, and the links that
-/// a run refused.
+/// The nodes of a `link` line.
+#[derive(Clone, Copy, Drop)]
+pub struct Joined {
+    pub from: u32,
+    pub to: u32,
+}
+
+/// The nodes that an `async` line names, the `unlink` lines, the `loop` lines, the `link` lines,
+/// and the links that a run refused.
 #[derive(Drop)]
 pub struct LinkOutcomes {
     pub late: Items<u32>,
     pub unlinks: Items<UnlinkLine>,
     pub placed: Items<Placed>,
+    pub joined: Items<Joined>,
     pub refused: Items<Refusal>,
 }
 
@@ -69,6 +78,19 @@ fn placed_by(command: &Command) -> Option<Placed>
     }
 }
 
+// The nodes that a line links.
+fn joined_by(command: &Command) -> Option<Joined>
+    ensures { result ≡ joined_by command.now }
+{
+    match command {
+        Command::Link { from, to } => Some(Joined {
+            from: from.node,
+            to: to.node,
+        }),
+        _ => None,
+    }
+}
+
 /// One more, if there is one.
 pub(crate) fn push_some<T: Drop>(list: &mut Items<T>, item: Option<T>) -> Result<(), Memory>
     ensures { OnOk result (list.new ≡ list.old ++ option_to_list item) }
@@ -79,6 +101,40 @@ pub(crate) fn push_some<T: Drop>(list: &mut Items<T>, item: Option<T>) -> Result
     }
 }
 
+// The nodes that lines bind to loops. Takes memory for each.
+fn placed_of(alloc: Global, lines: &[Line]) -> Result<Items<Placed>, Memory>
+    ensures { IfOk result (λ placed. placed ≡ filter_map (λ l. placed_by l.command) lines.now) }
+{
+    let mut placed = Items::new(alloc);
+    let mut rest = lines;
+    loop {
+        match rest {
+            [] => return Ok(placed),
+            [line, more @ ..] => {
+                push_some(&mut placed, placed_by(&line.command))?;
+                rest = more;
+            }
+        }
+    }
+}
+
+// The nodes that lines link. Takes memory for each.
+fn joined_of(alloc: Global, lines: &[Line]) -> Result<Items<Joined>, Memory>
+    ensures { IfOk result (λ joined. joined ≡ filter_map (λ l. joined_by l.command) lines.now) }
+{
+    let mut joined = Items::new(alloc);
+    let mut rest = lines;
+    loop {
+        match rest {
+            [] => return Ok(joined),
+            [line, more @ ..] => {
+                push_some(&mut joined, joined_by(&line.command))?;
+                rest = more;
+            }
+        }
+    }
+}
+
 /// What becomes of the links and the nodes of a script, by its lines and the text of its run. Takes
 /// memory for each `async`, `link`, `loop` and `unlink` line.
 pub(crate) fn outcomes_of(alloc: Global, lines: &[Line], run: &[u8]) -> Result<LinkOutcomes, Memory>
@@ -86,9 +142,10 @@ pub(crate) fn outcomes_of(alloc: Global, lines: &[Line], run: &[u8]) -> Result<L
 {
     let numbers = link_numbers(alloc, lines)?;
     let refused = refusals_of(alloc, numbers.as_slice(), run)?;
+    let placed = placed_of(alloc, lines)?;
+    let joined = joined_of(alloc, lines)?;
     let mut late = Items::new(alloc);
     let mut unlinks = Items::new(alloc);
-    let mut placed = Items::new(alloc);
     let mut rest = lines;
     loop {
         match rest {
@@ -96,12 +153,12 @@ pub(crate) fn outcomes_of(alloc: Global, lines: &[Line], run: &[u8]) -> Result<L
                 late,
                 unlinks,
                 placed,
+                joined,
                 refused,
             }),
             [line, more @ ..] => {
                 push_some(&mut late, async_node(&line.command))?;
                 push_some(&mut unlinks, unlink_at(line.line, &line.command))?;
-                push_some(&mut placed, placed_by(&line.command))?;
                 rest = more;
             }
         }
@@ -133,11 +190,27 @@ pub(crate) fn is_unlinked(outcomes: &LinkOutcomes, number: u32, from: PortId, to
         .any(|unlink| unlinks_after(*unlink, number, from, to))
 }
 
-/// Whether a link goes to a node that was made before the one that it is from, or to the same.
-pub(crate) fn is_back(from: PortId, to: PortId) -> bool
-    ensures { result ≡ is_back from to }
+// Whether some link leaves a node, and whether some link enters it.
+fn is_left(joined: &[Joined], node: u32) -> bool
+    ensures { result ≡ list_any (λ j. j.from == node) joined.now }
+{
+    joined.iter().any(|join| join.from == node)
+}
+
+fn is_entered(joined: &[Joined], node: u32) -> bool
+    ensures { result ≡ list_any (λ j. j.to == node) joined.now }
+{
+    joined.iter().any(|join| join.to == node)
+}
+
+/// Whether a link goes back: it enters a node that some link leaves, and leaves one that some link
+/// enters, and the node that it enters was made before the other, or is the same.
+pub(crate) fn is_back(outcomes: &LinkOutcomes, from: PortId, to: PortId) -> bool
+    ensures { result ≡ is_back outcomes.now from to }
 {
     to.node <= from.node
+        && is_left(outcomes.joined.as_slice(), to.node)
+        && is_entered(outcomes.joined.as_slice(), from.node)
 }
 
 // The loop that a line names for a node, or else the one before.

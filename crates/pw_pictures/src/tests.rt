@@ -159,6 +159,19 @@ fn a_way_back_goes_over_or_under_the_nodes(rt: HostRuntime) -> Result<(), Fail> 
         \x20 label=\"dashed: one end is async\\l\";\n\
         }\n";
     expect(&rt, "graph s", script, "", Status::Ok, wanted)?;
+    // No link leaves the sink, so none goes back to it, though it was made first.
+    let script =
+        "quantum 4\nsink o o.wav\nsquare s 48000 1 4 9\nasync s\nlink s.out o.in\ncycles 1\n";
+    let wanted = "digraph pipegraph {\n  rankdir=LR; ranksep=0.7; nodesep=0.4;\n\
+        \x20 fontname=\"sans-serif\"; fontsize=11; outputorder=edgesfirst;\n\
+        \x20 node [shape=record, fontname=\"sans-serif\", fontsize=12];\n\
+        \x20 edge [arrowsize=0.7];\n\
+        \x20 n0 [label=\"{{<p0> in}|o\\nsink o.wav}\"];\n\
+        \x20 n1 [label=\"{s\\nsquare 48000 1 4 9|{<p0> out}}\"];\n\
+        \x20 n1:p0:e -> n0:p0:w [style=dashed];\n\
+        \x20 label=\"dashed: one end is async\\l\";\n\
+        }\n";
+    expect(&rt, "graph s", script, "", Status::Ok, wanted)?;
     Ok(())
 }
 
