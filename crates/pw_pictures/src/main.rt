@@ -4,6 +4,8 @@
 mod program;
 #[cfg(test)]
 mod tests;
+#[cfg(test)]
+mod waves;
 
 use program::run_read;
 use std::process::ExitCode;
