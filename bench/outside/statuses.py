@@ -84,6 +84,12 @@ OF_PICTURES = [
 DRAWN = [["graph", "one.graph"], ["timeline", "one.graph", "a.trace"], ["wave", "a.wav"]]
 
 
+def is_whole(picture):
+    """Whether a graph in DOT, or an SVG, is there from its begin to its end."""
+    return (picture.startswith(b"digraph pipegraph {\n") and picture.endswith(b"\n}\n")
+            or picture.startswith(b"<svg ") and picture.endswith(b"</svg>\n"))
+
+
 def each(place):
     """Each status of each command, with its line on standard output and its sentence beside it."""
     for name, content in FILES.items():
@@ -99,7 +105,7 @@ def each(place):
         if line is None:
             drawn = place.ask(*words, of=PICTURES)
             place.same(" ".join(words), (0, True, b""),
-                       (drawn.status, len(drawn.out) > 500, drawn.errors))
+                       (drawn.status, is_whole(drawn.out), drawn.errors))
         else:
             place.expect(" ".join(words), words, status, line, of=PICTURES)
     with open("/dev/full", "wb") as full:
