@@ -120,8 +120,9 @@ fn put_noted(
 /// without the program's name, by the bytes of the script that the run read and by the text that it
 /// put, where these two are known. Where the status names a line of a script, the message has the
 /// names of that line. Where all was done, it has a note for each link that was not made, for each
-/// sink and meter without a format or without frames, for each sink whose file a later one
-/// overwrote or a source reads, and for what a check or a filter found. Nothing is loaded.
+/// sink and meter without a format, for each sink without frames, for each meter of a script that
+/// makes no cycles, for each sink whose file a later one overwrote or a source reads, and for what
+/// a check or a filter found. Nothing is loaded.
 #[tactic(auto, unfolding(crate::specs::Explaining::explained))]
 pub fn explain(
     alloc: Global,

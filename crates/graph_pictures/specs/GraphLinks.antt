@@ -1,5 +1,5 @@
--- Links of a graph as DOT edges, from the field of a port to that of another. They leave to the east
--- and enter from the west; a way back goes over the nodes, or under them.
+-- Links of a graph as DOT edges, from the field of a port to that of another. They leave to the
+-- east and enter from the west; a way back goes over the nodes, or under them.
 -- Source: graphviz.org, "DOT Language", edges with ports and compass points.
 use Rattle.std.specs.Prelude.{ℕ, ◌==◌, ◌&&◌, ◌||◌, Bool, true, false, List, [], ◌∷◌, ◌++◌, codes}
 use Rattle.std.specs.Prelude.{Option, Some, None, bytes_eq, if◌then◌else◌}
@@ -12,7 +12,7 @@ use Rattle.graph_pictures.specs.Template.{filled}
 use Rattle.graph_pictures.specs.Refusals.{refusal_at}
 
 -- the sides at which a link leaves its output and enters its input. A way back has the top, or the
--- bottom where one of the ports has another one above it: the second input and the third port
+-- bottom at a second input and at a third port: a `split`'s right one, and a `mix2`'s output
 abbrev pub is_under : PortId → PortId → Bool
 is_under from to = to.port == 1 || from.port == 2
 

@@ -29,8 +29,8 @@ late_text rows index node =
     ((8 * index) ∷ (middle_of (row_of rows node) - 10) ∷ (8 * index)
     ∷ middle_of (row_of rows node) ∷ [])
 
--- THE MARKS of an event, by its index and the events after it: a rule at a begin, a bar at a start, a
--- mark above the rows and the late nodes at a late check; the rows of these nodes are this high
+-- THE MARKS of an event, by its index and the events after it: a rule at a begin, a bar at a start,
+-- a mark above the rows and the late nodes at a late check; the rows of these nodes are this high
 unfoldable pub event_text : List ℕ → ℕ → ℕ → Event → List Event → List ℕ
 event_text rows high index (Begin cycle) after =
     filled (codes "<path class='c' d='M% 4v%'/>\n") ((8 * index) ∷ (14 + high) ∷ [])

@@ -1,5 +1,5 @@
--- The ground of a lane of a wave: the limits of 16 bits left of it, a scale in decibels right of it,
--- and above it what its samples reach.
+-- The ground of a lane of a wave: the limits of 16 bits left of it, a scale in decibels right of
+-- it, and above it what its samples reach.
 -- Source: w3.org, "SVG 1.1", paths and texts. What is drawn is this project's own.
 use Rattle.std.specs.Prelude.{ℕ, ◌+◌, ◌-◌, ◌*◌, List, [], ◌∷◌, ◌++◌, codes, ℤ}
 use Rattle.pw_lists.specs.Samples.{peak_of}
@@ -10,7 +10,7 @@ use Rattle.graph_pictures.specs.WaveColumns.{clipped_of}
 abbrev pub top_of : ℕ → ℕ
 top_of channel = 72 + 300 * channel
 
--- the ground of a lane, of this width, with the line of silence, and the limits of 16 bits left of it
+-- the ground of a lane, of this width, with the line of silence; left of it the limits of 16 bits
 abbrev pub ground_text : ℕ → ℕ → List ℕ
 ground_text wide top =
     filled (codes "<path class='g' d='M48 %h%v256h-%z'/><path class='z' d='M48 %h%'/>\n")

@@ -57,10 +57,10 @@ impl Program<Status, Request> for Pictures {
 /// The words are those after the program's own name: `graph SCRIPT`, `graph SCRIPT TRACE`,
 /// `timeline SCRIPT TRACE`, the same with the first and the last of the cycles that are drawn, or
 /// `wave FILE`. Loads are made in this order, and nothing is stored. A script or a file is refused
-/// with the line and the status that `pipegraph` has for it; of a trace with a line that is no event
-/// line that line's number is printed; a cycle that no event is of is refused as a word is. Where
-/// memory is short for a line, that of `Memory` is printed instead. Takes memory for the files and
-/// for the text.
+/// with the line and the status that `pipegraph` has for it; of a trace with a line that is no
+/// event line that line's number is printed; a cycle that no event is of is refused as a word is.
+/// Where memory is short for a line, that of `Memory` is printed instead. Takes memory for the
+/// files and for the text.
 pub fn print_picture<F: Files, O: Sink>(
     alloc: Global,
     words: &[String],

@@ -105,14 +105,15 @@ fn put_lines(
 /// The graph of a script in Graphviz's DOT, from left to right.
 ///
 /// Each line is drawn: a node with its ports, its name, its kind and its last loop; a link from
-/// port to port, a late one dashed, one that a later line cuts grey; a late one that goes back, to
-/// a node that was made before, goes over the nodes or under them; a second border for a driver candidate, with its
-/// last priority; a border of dots for a node that is off at the end. `run` is the text that a run
-/// of the script printed, or nothing: a link that it refused is dotted and grey, through a note
-/// with the cause. Of a file's name of more than 32 bytes the middle is left out. Lines of offers,
-/// buffers and cycles draw nothing; below is what those marks mean that occur. Takes memory for the
-/// text and for each `async`, `link`, `loop` and `unlink` line; time in proportion to the lines,
-/// and for each link or `off` line to them once more.
+/// port to port, a late one dashed, one that a later line cuts grey; a late one goes over the
+/// nodes or under them where it goes from a node that a link enters to one that a link leaves,
+/// which was made before it or is the same; a second border for a driver candidate, with its last
+/// priority; a border of dots for a node that is off at the end. `run` is the text that a run of
+/// the script printed, or nothing: a link that it refused is dotted and grey, through a note with
+/// the cause. Of a file's name of more than 32 bytes the middle is left out. Lines of offers,
+/// buffers and cycles draw nothing; below is what those marks mean that occur. Takes memory for
+/// the text and for each `async`, `link`, `loop` and `unlink` line; time in proportion to the
+/// lines, and for each link or `off` line to them once more.
 #[tactic(auto, unfolding(crate::specs::GraphText::graph_text))]
 pub fn graph(alloc: Global, script: &Script, run: &[u8]) -> Result<Text, Memory>
     ensures { IfOk result (λ text. text ≡ graph_text script.now (trace_lines run.now)) }
