@@ -7,6 +7,8 @@ mod events;
 #[cfg(test)]
 mod faults;
 #[cfg(test)]
+mod found;
+#[cfg(test)]
 mod graphs;
 #[cfg(test)]
 mod groups;

@@ -1,6 +1,7 @@
-//! What a call finds beside its report: of `check` the reason for which a trace is no legal
-//! history, each worked out by hand.
+//! What a call finds of a trace: the reason for which it is no legal history and the event there,
+//! each worked out by hand.
 
+use pw_graph::Event;
 use pw_lists::Memory;
 use pw_outside::{MemSink, Never, Open};
 use pw_top::{Ran, What, run_words_with};
@@ -50,7 +51,13 @@ fn found_by<R: Threads + Wait + Sync + AllocGlobal>(
 /// A trace whose sink starts before the source has finished, one that is cut short, one that goes
 /// on, and one with a line of no event.
 const TRACES: &'static [(&'static [u8], What)] = &[
-    (LEGAL, What::Check { reason: None }),
+    (
+        LEGAL,
+        What::Check {
+            reason: None,
+            event: None,
+        },
+    ),
     (
         b"begin 0\nstart 0 s\nstart 0 o\nfinish 0 s\nfinish 0 o\nstart 0 p\nfinish 0 p\nend 0\n",
         What::Check {
@@ -58,6 +65,7 @@ const TRACES: &'static [(&'static [u8], What)] = &[
                 at: 3,
                 cause: Cause::WaitsFor { node: 0 },
             }),
+            event: Some(Event::Start { cycle: 0, node: 2 }),
         },
     ),
     (
@@ -67,6 +75,7 @@ const TRACES: &'static [(&'static [u8], What)] = &[
                 at: 5,
                 cause: Cause::NotFinished { cycle: 0, node: 1 },
             }),
+            event: None,
         },
     ),
     (
@@ -77,6 +86,7 @@ const TRACES: &'static [(&'static [u8], What)] = &[
                 at: 9,
                 cause: Cause::AllEnded,
             }),
+            event: Some(Event::Begin { cycle: 1 }),
         },
     ),
     (b"begin 0\nstart 0 zz\n", What::Nothing),

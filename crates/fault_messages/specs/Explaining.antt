@@ -1,11 +1,11 @@
 -- The message of a status, with the line of the script that it names, by the bytes of the script
 -- that the run read; and the notes on a command that was accepted. Source: this project's own.
 use Rattle.std.specs.Prelude.{ℕ, List, [], ◌++◌, Option, Some, None, if◌then◌else◌}
-use Rattle.pw_top.specs.declared.found.Found.{Found}
-use Rattle.pw_top.specs.declared.found.What.{What}
-use Rattle.pw_top.specs.declared.found.What.TheVariants.{Nothing, Check}
-use Rattle.pw_top.specs.declared.status.Status.{Status}
-use Rattle.pw_top.specs.declared.status.Status.TheVariants as S
+use Rattle.run_results.specs.declared.found.Found.{Found}
+use Rattle.run_results.specs.declared.found.What.{What}
+use Rattle.run_results.specs.declared.found.What.TheVariants.{Nothing, Check}
+use Rattle.run_results.specs.declared.status.Status.{Status}
+use Rattle.run_results.specs.declared.status.Status.TheVariants as S
 use Rattle.trace_check.specs.declared.reasons.Reason.{Reason}
 use Rattle.fault_messages.specs.Places.{Words, is_line, line_at}
 use Rattle.fault_messages.specs.Message.{message_of}

@@ -1,7 +1,7 @@
 -- The sentence that a status is printed as, for people. Source: this project's own.
 use Rattle.std.specs.Prelude.{ℕ, ◌==◌, ◌||◌, Bool, false, bytes_eq, if◌then◌else◌, List, [], ◌++◌, codes, decimal, Option, Some, None}
-use Rattle.pw_top.specs.declared.status.Status.{Status}
-use Rattle.pw_top.specs.declared.status.Status.TheVariants as S
+use Rattle.run_results.specs.declared.status.Status.{Status}
+use Rattle.run_results.specs.declared.status.Status.TheVariants as S
 use Rattle.fault_messages.specs.CycleRoom.{room_part}
 use Rattle.fault_messages.specs.Places.{Words, word, place_text, file_part, lines_before}
 use Rattle.fault_messages.specs.ScriptMessages.{script_said}

@@ -4,7 +4,7 @@ use Rattle.std.specs.Prelude.{ℕ, ◌==◌, ◌-◌, ◌&&◌, ◌||◌, not, B
 use Rattle.std.specs.Prelude.{codes, decimal, bytes_eq, nat_eq, slice_get, slice_index_or, Option, Some, None}
 use Rattle.std.specs.List.{starts_with}
 use Rattle.graph_script.specs.Lexical.{lines_of, words_of}
-use Rattle.pw_top.specs.Check.{trace_place}
+use Rattle.run_results.specs.Places.{trace_place}
 use Rattle.fault_messages.specs.Escaping.{escaped}
 
 -- words of a command line or of a line, or lines of a text

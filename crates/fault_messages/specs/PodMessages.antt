@@ -1,8 +1,8 @@
 -- Why a POD is refused, in words. Source: the faults are those of PipeWire's documentation, "SPA
 -- POD"; the sentences are this project's own.
 use Rattle.std.specs.Prelude.{ℕ, ◌==◌, List, [], ◌++◌, codes, decimal, Option, Some, None, if◌then◌else◌}
-use Rattle.pw_top.specs.declared.status.PodWhy.{PodWhy}
-use Rattle.pw_top.specs.declared.status.PodWhy.TheVariants as P
+use Rattle.run_results.specs.declared.status.PodWhy.{PodWhy}
+use Rattle.run_results.specs.declared.status.PodWhy.TheVariants as P
 use Rattle.fault_messages.specs.KeyNames.{key_part}
 
 -- the words; where a number is carried, it follows them

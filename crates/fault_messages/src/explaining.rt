@@ -10,7 +10,7 @@ use crate::places::is_line;
 use crate::reason_notes::put_reason_note;
 use crate::sentences::message;
 use pw_lists::{Memory, Text};
-use pw_top::{Found, Status, What};
+use run_results::{Found, Status, What};
 use std::alloc::Global;
 use trace_check::Reason;
 

@@ -4,7 +4,7 @@ ghost use Rattle.fault_messages.specs.PodMessages.{pod_words, carried, number_te
 
 use crate::key_names::put_key;
 use pw_lists::{Memory, Text, append_decimal};
-use pw_top::PodWhy;
+use run_results::PodWhy;
 
 /// The letters that a WAV file begins with, as a number of four bytes.
 const RIFF: u32 = 0x46464952;

@@ -13,7 +13,7 @@ use crate::putting::put_number;
 use crate::script_messages::put_script;
 use crate::usages::put_usage;
 use pw_lists::{Items, Memory, Text};
-use pw_top::Status;
+use run_results::Status;
 use std::alloc::Global;
 
 // The end of the sentence, and the words of all commands.

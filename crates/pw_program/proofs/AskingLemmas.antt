@@ -5,7 +5,7 @@ use Rattle.std.proofs.Props.{props}
 use Rattle.std.specs.Prelude.{nat_lt, if◌then◌else◌}
 use Rattle.pw_outside.specs.declared.every.Every.{Every}
 use Rattle.pw_outside.specs.Every.{asked}
-use Rattle.pw_top.specs.declared.status.Status.{Status}
+use Rattle.run_results.specs.declared.status.Status.{Status}
 use Rattle.pw_top.specs.Outside.{Outside}
 use Rattle.pw_top.specs.Usage.{Words}
 use Rattle.pw_program.specs.Program.{IsToldOf}

@@ -4,18 +4,17 @@ use Rattle.std.specs.Prelude.{◌≡◌, ℕ, List, Option, Result}
 use Rattle.pw_outside.specs.declared.files.FileFail.{FileFail}
 use Rattle.pw_outside.specs.declared.output.Sink as sink
 use Rattle.pw_outside.specs.Causes.{HasCause}
-use Rattle.pw_outside.specs.Files.{Held}
 use Rattle.pw_outside.specs.Output.{Given, IsPut}
-use Rattle.pw_top.specs.declared.found.Found.{Found}
-use Rattle.pw_top.specs.declared.status.Status.{Status}
+use Rattle.run_results.specs.declared.found.Found.{Found}
+use Rattle.run_results.specs.declared.status.Status.{Status}
 use Rattle.pw_top.specs.Found.{IsFound}
 use Rattle.pw_top.specs.Headline.{IsTold}
 use Rattle.pw_top.specs.Outside.{Outside}
 use Rattle.pw_top.specs.Playing.{Happened}
 use Rattle.pw_top.specs.Usage.{Words}
+use Rattle.pw_top.specs.WorkFound.{IsWorkFound}
 use Rattle.fault_messages.specs.Explaining.{explained}
-use Rattle.fault_messages.specs.Places.{word}
-use Rattle.first_load.specs.FirstLoad.{IsReadOf}
+use Rattle.system_files.specs.declared.why.FileWhy.{FileWhy}
 
 -- some run happened between these two counts of its ticker, of which this is told: there is an
 -- answer that files, output and status follow
@@ -25,10 +24,6 @@ pub record IsToldOf (words : Words) (before now : Outside) (checks checks_now : 
   pub from : happened.before ≡ checks
   pub to : happened.now ≡ checks_now
   pub told : IsTold words before now happened status
-
--- the word that names the script
-abbrev pub script_name : List (List ℕ) → List ℕ
-script_name words = word words 1
 
 -- the error output at one moment: what it was given, and how many puts have failed
 pub record ErrorOutput : Type 0 where
@@ -45,16 +40,12 @@ pub record IsSaid (text : List ℕ) (before now : ErrorOutput) (said : Result (U
   pub put : IsPut text before.given now.given said
   pub cause : HasCause before.faults now.faults said
 
--- THE SENTENCE of a status, or the notes, were put: by the words, by what the run found, and by the
--- bytes of the script that was stored under its name before the run and the text that the run put,
--- where these are at hand
-pub record HasSaid (held : Held) (was_put : Option (List ℕ) → Type 0) (words : List (List ℕ))
-    (status : Status) (before now : ErrorOutput) (answer : Result (Unit {0}) FileFail)
-    : Type 0 where
+-- THE SENTENCE of a status, or the notes, were put, by the words, by why a file was refused, and by
+-- what the run found: the script that was stored under its name before the run, and the work that
+-- files and output followed
+pub record HasSaid (words : Words) (before now : Outside) (why : Option FileWhy) (status : Status)
+    (errors errors_now : ErrorOutput) (answer : Result (Unit {0}) FileFail) : Type 0 where
   pub found : Found
-  pub script : Option (List ℕ)
-  pub told : Option (List ℕ)
-  pub is_found : IsFound words held status found
-  pub read : IsReadOf held (script_name words) script
-  pub put : was_put told
-  pub said : IsSaid (explained status found words script told) before now answer
+  pub is_found : IsFound words before.held status found
+  pub work : IsWorkFound status before.held now.held before.given now.given found.work
+  pub said : IsSaid (explained status found why words) errors errors_now answer

@@ -1,20 +1,16 @@
 //! How a command line ended.
 
 use crate::asking::Asked;
-use pw_lists::Text;
 use pw_outside::FileFail;
 use pw_top::{Found, Status};
 
-/// A run that was made: its status and what it found, the files and the output after it, the script
-/// that it loaded and the text that it put, where these are kept.
+/// A run that was made: its status and what it found, and the files and the output after it.
 #[derive(Drop)]
 pub(crate) struct Run<F, O> {
     pub status: Status,
     pub found: Found,
     pub files: F,
     pub out: O,
-    pub script: Option<Text>,
-    pub told: Option<Text>,
 }
 
 /// The status of a command line, the number that the program ends with, the files, the output and

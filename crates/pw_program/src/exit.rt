@@ -13,11 +13,11 @@ use pw_outside::{Files, Sink};
 use std::alloc::Global;
 use std::sync::Wait;
 use std::thread::Threads;
-use system_files::Unread;
+use system_files::{TellsWhy, Unread};
 
 /// Does what the words of a command line ask for, or says on the error output why they could not be
 /// read; may wait.
-pub fn run_read<R: Threads + Wait + Sync, F: Files, O: Sink, E: Sink>(
+pub fn run_read<R: Threads + Wait + Sync, F: Files + TellsWhy, O: Sink, E: Sink>(
     rt: &R,
     alloc: Global,
     words: Result<Items<String>, Unread>,
@@ -28,8 +28,8 @@ pub fn run_read<R: Threads + Wait + Sync, F: Files, O: Sink, E: Sink>(
     // The number is that of a status that files and output follow, and its sentence is put.
     ensures ended { IfOk words (λ read. HasEnded (map string_bytes read)
         (outside F.Files O.Sink files out) (outside F.Files O.Sink result.files result.out)
-        result.ticker result.code (shown E.Sink errors.old) (shown E.Sink errors.new)
-        result.said) }
+        (F.why result.files) result.ticker result.code (shown E.Sink errors.old)
+        (shown E.Sink errors.new) result.said) }
     // Or of what could not be read: files and output are as before.
     ensures refused { IfErr words (λ unread. HasRefused unread (outside F.Files O.Sink files out)
         (outside F.Files O.Sink result.files result.out) result.code (shown E.Sink errors.old)

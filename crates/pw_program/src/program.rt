@@ -2,25 +2,25 @@
 ghost use Rattle.std.specs.Prelude.{◌≡◌, map, string_bytes};
 ghost use Rattle.pw_top.specs.FaultCauses.{Caused, IsUsage};
 ghost use Rattle.pw_top.specs.Outside.{outside};
-ghost use Rattle.pw_top.specs.StatusLine.{status_number};
+ghost use Rattle.run_results.specs.StatusNumbers.{status_number};
 ghost use Rattle.pw_top.specs.Usage.{command_of, ticks_in};
 ghost use Rattle.fault_messages.specs.Explaining.{explained};
-ghost use Rattle.kept_output.specs.KeptOutput.{IsGivenSince};
 ghost use Rattle.pw_program.specs.Asking.{period_of, checks_of};
 ghost use Rattle.pw_program.specs.Program.{shown, IsToldOf, IsSaid, HasSaid};
 
 use crate::asking::Asked;
 use crate::ended::{Ended, Run};
-use crate::running::run_kept;
+use crate::running::run_asked;
 use crate::telling::tell;
 use pw_outside::{Files, Sink};
 use std::alloc::Global;
 use std::sync::Wait;
 use std::thread::Threads;
+use system_files::TellsWhy;
 
 // Puts the sentence of a run that was made, and answers how it ended. The files and the output are
 // those that the run left: nothing is loaded or stored, and nothing is put but on the error output.
-fn finish<F: Files, O: Sink, E: Sink>(
+fn finish<F: Files + TellsWhy, O: Sink, E: Sink>(
     alloc: Global,
     words: &[String],
     ran: Run<F, O>,
@@ -33,7 +33,7 @@ fn finish<F: Files, O: Sink, E: Sink>(
     ensures code { result.code ≡ status_number ran.status }
     ensures ticker { result.ticker ≡ ticker }
     ensures said { IsSaid
-        (explained ran.status ran.found (map string_bytes words.now) ran.script ran.told)
+        (explained ran.status ran.found (F.why ran.files) (map string_bytes words.now))
         (shown E.Sink errors.old) (shown E.Sink errors.new) result.said }
 {
     let Run {
@@ -41,10 +41,8 @@ fn finish<F: Files, O: Sink, E: Sink>(
         found,
         files,
         out,
-        script,
-        told,
     } = ran;
-    let said = tell(alloc, words, &status, &found, &script, &told, errors);
+    let said = tell(alloc, words, &status, &found, files.why(), errors);
     Ended {
         status,
         code: status.number(),
@@ -59,10 +57,11 @@ fn finish<F: Files, O: Sink, E: Sink>(
 /// all was done, on the error output, and answers the number that the program ends with; may wait.
 ///
 /// Files, output and status are those of `run_words_with`: the output has what that call put and
-/// nothing else. Sentence and notes are made of the words, of what the run found, of the bytes of
-/// the script that it loaded and of the text that it put; nothing is loaded or stored for them, and
-/// where they cannot be put, nothing else changes. The ticker is the one that `--ticks` names.
-pub fn run_program<R: Threads + Wait + Sync, F: Files, O: Sink, E: Sink>(
+/// nothing else. Sentence and notes are made of the words, of what the run found, with the bytes of
+/// the script that it loaded, the waves that it stored and the text that it put, and of the reason
+/// that the files tell where the last load or store failed; nothing is loaded or stored for them,
+/// and where they cannot be put, nothing else changes. The ticker is the one that `--ticks` names.
+pub fn run_program<R: Threads + Wait + Sync, F: Files + TellsWhy, O: Sink, E: Sink>(
     rt: &R,
     alloc: Global,
     words: &[String],
@@ -80,12 +79,12 @@ pub fn run_program<R: Threads + Wait + Sync, F: Files, O: Sink, E: Sink>(
     ensures usage { IsUsage (command_of (map string_bytes words.now)) result.status }
     ensures code { result.code ≡ status_number result.status }
 
-    // The sentence or the notes, with lines of the script that the run read, by what it found and
-    // by what it put.
-    ensures said { HasSaid (F.held files) (IsGivenSince (O.given out) (O.given result.out))
-        (map string_bytes words.now) result.status (shown E.Sink errors.old)
-        (shown E.Sink errors.new) result.said }
+    // The sentence or the notes, by what the run found: the script that it read, and what it
+    // stored and put; and by why a file was refused.
+    ensures said { HasSaid (map string_bytes words.now) (outside F.Files O.Sink files out)
+        (outside F.Files O.Sink result.files result.out) (F.why result.files) result.status
+        (shown E.Sink errors.old) (shown E.Sink errors.new) result.said }
 {
-    let (ran, ticker) = run_kept(rt, alloc, words, files, out);
+    let (ran, ticker) = run_asked(rt, alloc, words, files, out);
     finish(alloc, words, ran, ticker, errors)
 }

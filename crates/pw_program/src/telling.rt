@@ -1,5 +1,5 @@
 //! The sentence of a status on the error output.
-ghost use Rattle.std.specs.Prelude.{◌≡◌, map, string_bytes, option_copied, Err, IfOk, OnErr};
+ghost use Rattle.std.specs.Prelude.{◌≡◌, map, string_bytes, Err, IfOk, OnErr};
 ghost use Rattle.pw_outside.specs.declared.files.FileFail.TheVariants as F;
 ghost use Rattle.fault_messages.specs.Explaining.{explained};
 ghost use Rattle.fault_messages.specs.Message.{words_message};
@@ -11,17 +11,7 @@ use pw_lists::{Memory, Text};
 use pw_outside::{FileFail, Sink};
 use pw_top::{Found, Status};
 use std::alloc::Global;
-use system_files::Unread;
-
-// The bytes that are kept, if they are.
-fn bytes_of(kept: &Option<Text>) -> Option<&[u8]>
-    ensures { option_copied result ≡ kept.now }
-{
-    match kept {
-        None => None,
-        Some(text) => Some(text.as_slice()),
-    }
-}
+use system_files::{FileWhy, Unread};
 
 // Puts a text that was made. Nothing is put where there was no memory for it.
 fn put_made<E: Sink>(
@@ -45,23 +35,13 @@ pub(crate) fn tell<E: Sink>(
     words: &[String],
     status: &Status,
     found: &Found,
-    script: &Option<Text>,
-    told: &Option<Text>,
+    why: Option<FileWhy>,
     errors: &mut E,
 ) -> Result<(), FileFail>
-    ensures { IsSaid
-        (explained status.now found.now (map string_bytes words.now) script.now told.now)
+    ensures { IsSaid (explained status.now found.now why (map string_bytes words.now))
         (shown E.Sink errors.old) (shown E.Sink errors.new) result }
 {
-    let made = explain(
-        alloc,
-        status,
-        found,
-        words,
-        bytes_of(script),
-        bytes_of(told),
-    );
-    put_made(alloc, made, errors)
+    put_made(alloc, explain(alloc, status, found, why, words), errors)
 }
 
 // The word at fault.

@@ -6,8 +6,8 @@ use Rattle.std.proofs.lemmas.List.{take_rest}
 use Rattle.std.proofs.lemmas.Grind.{common_steps}
 use Rattle.pw_lists.specs.declared.limit.Which.{Which}
 use Rattle.pw_outside.specs.Files.{Names}
-use Rattle.pw_top.specs.declared.status.Status.{Status}
-use Rattle.pw_top.specs.declared.status.Status.TheVariants as S
+use Rattle.run_results.specs.declared.status.Status.{Status}
+use Rattle.run_results.specs.declared.status.Status.TheVariants as S
 use Rattle.pw_top.specs.Answer.{Expected, ended, gone_on, load_outcome}
 use Rattle.pw_top.specs.working.Ending.{Ends, IsEndOf, is_plain, CommandCause}
 use Rattle.pw_top.specs.working.Ending.IsEndOf.{is_end}

@@ -6,7 +6,7 @@ use Rattle.control_sequence.specs.declared.points.Points.{Points}
 use Rattle.control_sequence.specs.declared.fault.ControlFault.{ControlFault}
 use Rattle.control_sequence.specs.declared.fault.ControlFault.TheVariants as F
 use Rattle.control_sequence.specs.Points.{IsPointsOf}
-use Rattle.pw_top.specs.declared.status.Status.{Status}
+use Rattle.run_results.specs.declared.status.Status.{Status}
 use Rattle.control_sequence.proofs.AutomationLemmas.{length-automated}
 use Rattle.wav_files.specs.declared.wav.Wav.{Wav}
 use Rattle.wav_files.specs.WavWriting.{IsWave}

@@ -1,9 +1,9 @@
 -- Laws of `specs/CommandLine.antt`: from the words to the answer of their command.
 use Rattle.std.proofs.Common.{◌≡◌, refl, inr, [], ◌∷◌}
 use Rattle.std.specs.Prelude.{Result, Ok, Err}
-use Rattle.pw_top.specs.declared.status.Status.{Status}
-use Rattle.pw_top.specs.declared.status.Status.TheVariants as S
-use Rattle.pw_top.specs.declared.work.Work.{Work}
+use Rattle.run_results.specs.declared.status.Status.{Status}
+use Rattle.run_results.specs.declared.status.Status.TheVariants as S
+use Rattle.run_results.specs.declared.work.Work.{Work}
 use Rattle.pw_top.specs.declared.usage.CommandLine.{CommandLine}
 use Rattle.pw_top.specs.declared.usage.CommandLine.TheVariants as C
 use Rattle.pw_outside.specs.Files.{Names}

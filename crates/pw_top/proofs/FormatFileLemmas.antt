@@ -5,7 +5,7 @@ use Rattle.pod_codec.specs.declared.pod.Pod.{Pod}
 use Rattle.format_filter.specs.declared.fault.FormatFault.{FormatFault}
 use Rattle.format_filter.specs.declared.fault.FormatFault.TheVariants as F
 use Rattle.format_filter.specs.FormatReading.{IsFirstFault}
-use Rattle.pw_top.specs.declared.status.Status.{Status}
+use Rattle.run_results.specs.declared.status.Status.{Status}
 use Rattle.pw_top.specs.working.Ending.{Ends, is_plain}
 use Rattle.pw_top.specs.Allowed.{Reads}
 use Rattle.pw_top.specs.FormatFile.{format_refusal, IsFormatIn}

@@ -1,32 +1,39 @@
--- Laws of `specs/Found.antt` and `specs/working/Seen.antt`: what is seen of a trace is found of it, by the parts of a check,
--- by its words, and by the status.
+-- Laws of `specs/Found.antt`, of what it names and of `specs/working/Seen.antt`: what is seen of a trace is found of it, by the
+-- parts of a check, by its words, and by the status; the script that was read; and the work that was done.
 use Rattle.std.proofs.Common.{◌≡◌, ℕ, List, map, refl, sym, subst, ◌∙◌, inl, inr}
 use Rattle.std.specs.Prelude.{◌⊎◌, Option, Some, None, Result, Ok, Err, OnOk, IsSome}
 use Rattle.pw_lists.specs.declared.limit.Which.TheVariants as L
 use Rattle.pw_graph.specs.declared.event.Event.{Event}
 use Rattle.pw_graph.specs.declared.shape.Shape.{Shape}
 use Rattle.pw_outside.specs.Files.{Held, names_in}
-use Rattle.pw_outside.specs.Output.{Given}
+use Rattle.pw_outside.specs.Output.{Given, Gave}
 use Rattle.trace_check.specs.declared.reasons.Reason.{Reason}
 use Rattle.trace_check.specs.Finding.{IsFindingOn}
 use Rattle.trace_check.specs.FirstIllegal.{IsVerdictOn}
 use Rattle.trace_check.specs.Reasons.{IsReasonOn}
 use Rattle.pw_top.specs.declared.commands.check_traces.Seen.{Seen}
 use Rattle.pw_top.specs.declared.commands.check_traces.Seen.TheVariants.{Line, Events}
-use Rattle.pw_top.specs.declared.found.Found.{Found}
-use Rattle.pw_top.specs.declared.found.What.{What}
+use Rattle.run_results.specs.declared.found.Found.{Found}
+use Rattle.run_results.specs.declared.found.What.{What}
+use Rattle.run_results.specs.declared.found.What.TheVariants as W
 use Rattle.pw_top.specs.declared.planned.Planned.{Planned}
-use Rattle.pw_top.specs.declared.status.Status.{Status}
-use Rattle.pw_top.specs.declared.status.Status.TheVariants as S
+use Rattle.run_results.specs.declared.status.Status.{Status}
+use Rattle.run_results.specs.declared.status.Status.TheVariants as S
 use Rattle.pw_top.specs.declared.usage.CommandLine.{CommandLine}
-use Rattle.pw_top.specs.declared.work.Work.{Work}
+use Rattle.pw_top.specs.declared.usage.CommandLine.TheVariants as C
+use Rattle.run_results.specs.declared.work.Work.{Work}
 use Rattle.pw_top.specs.Answer.{Expected}
 use Rattle.pw_top.specs.Allowed.{IsLoad}
-use Rattle.pw_top.specs.Check.{trace_place, trace_bytes_limit}
-use Rattle.pw_top.specs.Found.{Gives, IsFoundIn, IsFoundUnder, IsFoundByCheck, IsFoundBy, IsFoundOf, IsFound, found_after}
+use Rattle.run_results.specs.Places.{trace_place}
+use Rattle.pw_top.specs.Check.{trace_bytes_limit}
+use Rattle.pw_top.specs.Following.{status_of}
+use Rattle.pw_top.specs.Found.{IsFound, found_after}
 use Rattle.pw_top.specs.ScriptFile.{PlansFile}
+use Rattle.pw_top.specs.ScriptFound.{end_of, EndsAtLoad, IsScriptUnder, IsScriptBy, IsScriptOf}
 use Rattle.pw_top.specs.StatusLine.{has_line}
 use Rattle.pw_top.specs.Usage.{Words, command_of}
+use Rattle.pw_top.specs.WhatFound.{Gives, IsFoundIn, IsFoundUnder, IsFoundByCheck, IsWhatBy, IsWhatOf, IsWhat}
+use Rattle.pw_top.specs.WorkFound.{IsDone, IsWorkFound, work_in}
 use Rattle.pw_top.specs.working.Delivery.{Delivered, LineEnds}
 use Rattle.pw_top.specs.working.Ending.{Ends, IsRefusal, PrepareCause, IsDeliverable}
 use Rattle.pw_top.specs.working.Preparing.{Tells}
@@ -44,11 +51,11 @@ reason_verdict shapes events (Some reason) h = h.0
 module _ (names : List (List ℕ)) (shapes : List Shape) (bytes : List ℕ) where
   pub seen_finding : (seen : Seen) → IsSeenOn names shapes bytes seen → IsFindingOn names shapes bytes (finding_by seen)
   seen_finding (Line number) h = h
-  seen_finding (Events reason) h = (h.0, h.1, reason_verdict shapes h.0 reason h.2)
+  seen_finding (Events reason event) h = (h.0, h.1, reason_verdict shapes h.0 reason h.2)
 
   pub seen_found : (seen : Seen) → IsSeenOn names shapes bytes seen → IsFoundIn names shapes bytes (what_by seen)
   seen_found (Line number) h = (number, h)
-  seen_found (Events reason) h = h
+  seen_found (Events reason event) h = h
 
 -- what a part gave
 part_gives_it : {T : Type 0} (P : Expected T → Type 0) (x : T) → Ends P (Ok x) → Gives P x
@@ -93,9 +100,45 @@ check_found held now script trace p what r same told found =
     found
 
 -- the words were read
-pub found_read : (expected : Result CommandLine Status) (held : Held) (c : CommandLine) (found : Found) (r : Result Work Status)
-    → expected ≡ Ok c → OnOk r (IsFoundBy c held found) → OnOk r (IsFoundOf expected held found)
-found_read expected held c found r e h = subst (λ (x : Result CommandLine Status). OnOk r (IsFoundOf x held found)) (sym e) h
+pub what_read : (expected : Result CommandLine Status) (held : Held) (c : CommandLine) (what : What) (r : Result Work Status)
+    → expected ≡ Ok c → OnOk r (IsWhatBy c held what) → OnOk r (IsWhatOf expected held what)
+what_read expected held c what r e h = subst (λ (x : Result CommandLine Status). OnOk r (IsWhatOf x held what)) (sym e) h
+
+pub script_read : (expected : Result CommandLine Status) (held : Held) (c : CommandLine) (status : Status) (script : Option (List ℕ))
+    → expected ≡ Ok c → IsScriptBy c held status script → IsScriptOf expected held status script
+script_read expected held c status script e h = subst (λ (x : Result CommandLine Status). IsScriptOf x held status script) (sym e) h
+
+pub script_refused : (expected : Result CommandLine Status) (held : Held) (status end : Status) (script : Option (List ℕ))
+    → expected ≡ Err status → script ≡ None → IsScriptOf expected held end script
+script_refused expected held status end script e h =
+    subst (λ (x : Result CommandLine Status). IsScriptOf x held end script) (sym e) h
+
+-- HOW A COMMAND GOES ON: it was not ended by the load of its script, or ends as it would have, or memory is short
+abbrev pub GoesOn : Status → Status → Type 0
+GoesOn status later = (status ≡ S.Ok) ⊎ ((later ≡ status) ⊎ (later ≡ S.Memory))
+
+-- and the script stays
+pub script_later : (held : Held) (name : List ℕ) (script : Option (List ℕ)) (status later : Status) → GoesOn status later
+    → IsScriptUnder held name status script → IsScriptUnder held name later script
+script_later held name (Some bytes) status later e h = h
+script_later held name None status later (inl ok) h = absurd (subst (EndsAtLoad 0) ok h)
+script_later held name None status later (inr (inl same)) h = subst (EndsAtLoad 0) (sym same) h
+script_later held name None status later (inr (inr short)) h = subst (EndsAtLoad 0) (sym short) tt
+
+script_by : (c : CommandLine) (held : Held) (script : Option (List ℕ)) (status later : Status) → GoesOn status later
+    → IsScriptBy c held status script → IsScriptBy c held later script
+script_by (C.Run c) held script status later e h = script_later held c.script script status later e h
+script_by (C.Check c) held script status later e h = script_later held c.script script status later e h
+script_by (C.Groups c) held script status later e h = script_later held c.script script status later e h
+script_by (C.Dump c) held script status later e h = h
+script_by (C.Filter c) held script status later e h = h
+script_by (C.Automate c) held script status later e h = h
+script_by (C.Soak c) held script status later e h = h
+
+script_of_words : (expected : Result CommandLine Status) (held : Held) (script : Option (List ℕ)) (status later : Status)
+    → GoesOn status later → IsScriptOf expected held status script → IsScriptOf expected held later script
+script_of_words (Ok c) held script status later e h = script_by c held script status later e h
+script_of_words (Err refusal) held script status later e h = h
 
 -- BY THE STATUS: where that is Ok, work was prepared
 module _ (f f' s s' p p1 p' : ℕ) (hl hl' : Held) (g g1 g' : Given) where
@@ -108,17 +151,75 @@ module _ (f f' s s' p p1 p' : ℕ) (hl hl' : Held) (g g1 g' : Given) where
   ok_prepared (Ok work) mid X c d e h = h
   ok_prepared (Err status) mid X c d e h = absurd (none_ok status mid c d.0 (either_end (has_line mid) mid S.Ok _ _ _ e))
 
+  pub what_ends : (words : Words) (held : Held) (what : What) (made : Result Work Status) (mid : Status)
+      → PrepareCause IsDeliverable f f' made
+      → Delivered made s s' p p1 hl hl' g g1 mid → LineEnds mid p1 p' g1 g' S.Ok
+      → OnOk made (IsWhatOf (command_of words) held what) → IsWhat words held S.Ok what
+  what_ends words held what made mid c d e h = ok_prepared made mid (IsWhatOf (command_of words) held what) c d e h
+
+  goes_on : (made : Result Work Status) (mid status : Status) → Delivered made s s' p p1 hl hl' g g1 mid
+      → (status ≡ mid) ⊎ (status ≡ S.Memory) → GoesOn (end_of made) status
+  goes_on (Ok work) mid status d e = inl refl
+  goes_on (Err refusal) mid status d (inl same) = inr (inl (same ∙ d.0))
+  goes_on (Err refusal) mid status d (inr short) = inr (inr short)
+
+  pub script_ends : (expected : Result CommandLine Status) (held : Held) (script : Option (List ℕ)) (made : Result Work Status)
+      (mid status : Status) → Delivered made s s' p p1 hl hl' g g1 mid → LineEnds mid p1 p' g1 g' status
+      → IsScriptOf expected held (end_of made) script → IsScriptOf expected held status script
+  script_ends expected held script made mid status d e h = script_of_words expected held script (end_of made) status
+      (goes_on made mid status d (either_end (has_line mid) mid status _ _ _ e)) h
+
+  -- the work that was done
+  all_put : (work : Work) (mid : Status) → mid ≡ S.Ok → Delivered (Ok work) s s' p p1 hl hl' g g1 mid
+      → LineEnds mid p1 p' g1 g' S.Ok → IsDone hl hl' g g' (Some work)
+  all_put work mid ok d e =
+      let done = subst (λ m. Delivered (Ok work) s s' p p1 hl hl' g g1 m) ok d in
+      let ends = subst (λ m. LineEnds m p1 p' g1 g' S.Ok) ok e in record {
+        work = work;
+        there = refl;
+        stored = done.0;
+        put = subst (λ now. Gave work.text g now) (sym ends.1) done.1;
+      }
+
+  is_ok : (mid : Status) → (S.Ok ≡ mid) ⊎ (S.Ok ≡ S.Memory) → mid ≡ S.Ok
+  is_ok mid (inl same) = sym same
+  is_ok mid (inr short) = cc
+
+  pub work_ends : (made : Result Work Status) (mid : Status) → PrepareCause IsDeliverable f f' made
+      → Delivered made s s' p p1 hl hl' g g1 mid → LineEnds mid p1 p' g1 g' S.Ok → IsDone hl hl' g g' (work_in made)
+  work_ends (Ok work) mid c d e = all_put work mid (is_ok mid (either_end (has_line mid) mid S.Ok _ _ _ e)) d e
+  work_ends (Err status) mid c d e = absurd (none_ok status mid c d.0 (either_end (has_line mid) mid S.Ok _ _ _ e))
+
+  -- all that was found, by the status at the end
   pub found_ends : (words : Words) (held : Held) (found : Found) (made : Result Work Status) (mid status : Status)
       → PrepareCause IsDeliverable f f' made
       → Delivered made s s' p p1 hl hl' g g1 mid → LineEnds mid p1 p' g1 g' status
-      → OnOk made (IsFoundOf (command_of words) held found) → IsFound words held status (found_after status found)
-  found_ends words held found made mid S.Ok c d e h = ok_prepared made mid (IsFoundOf (command_of words) held found) c d e h
-  found_ends words held found made mid (S.Usage w) c d e h = refl
-  found_ends words held found made mid (S.Script w v) c d e h = refl
-  found_ends words held found made mid (S.Wav w v) c d e h = refl
-  found_ends words held found made mid (S.Pod w v) c d e h = refl
-  found_ends words held found made mid (S.Absent w) c d e h = refl
-  found_ends words held found made mid (S.ReadFault w) c d e h = refl
-  found_ends words held found made mid (S.WriteFault w) c d e h = refl
-  found_ends words held found made mid (S.Limit w v) c d e h = refl
-  found_ends words held found made mid S.Memory c d e h = refl
+      → IsScriptOf (command_of words) held (end_of made) found.script
+      → OnOk made (IsWhatOf (command_of words) held found.what)
+      → IsFound words held status (found_after status made found)
+      × IsWorkFound status hl hl' g g' (found_after status made found).work
+  found_ends words held found made mid S.Ok c d e x h = (
+    record {
+      script = script_ends (command_of words) held found.script made mid S.Ok d e x;
+      what = what_ends words held found.what made mid c d e h;
+    },
+    work_ends made mid c d e,
+  )
+  found_ends words held found made mid (S.Usage w) c d e x h =
+      (record { script = script_ends (command_of words) held found.script made mid (S.Usage w) d e x; what = refl }, refl)
+  found_ends words held found made mid (S.Script w v) c d e x h =
+      (record { script = script_ends (command_of words) held found.script made mid (S.Script w v) d e x; what = refl }, refl)
+  found_ends words held found made mid (S.Wav w v) c d e x h =
+      (record { script = script_ends (command_of words) held found.script made mid (S.Wav w v) d e x; what = refl }, refl)
+  found_ends words held found made mid (S.Pod w v) c d e x h =
+      (record { script = script_ends (command_of words) held found.script made mid (S.Pod w v) d e x; what = refl }, refl)
+  found_ends words held found made mid (S.Absent w) c d e x h =
+      (record { script = script_ends (command_of words) held found.script made mid (S.Absent w) d e x; what = refl }, refl)
+  found_ends words held found made mid (S.ReadFault w) c d e x h =
+      (record { script = script_ends (command_of words) held found.script made mid (S.ReadFault w) d e x; what = refl }, refl)
+  found_ends words held found made mid (S.WriteFault w) c d e x h =
+      (record { script = script_ends (command_of words) held found.script made mid (S.WriteFault w) d e x; what = refl }, refl)
+  found_ends words held found made mid (S.Limit w v) c d e x h =
+      (record { script = script_ends (command_of words) held found.script made mid (S.Limit w v) d e x; what = refl }, refl)
+  found_ends words held found made mid S.Memory c d e x h =
+      (record { script = script_ends (command_of words) held found.script made mid S.Memory d e x; what = refl }, refl)

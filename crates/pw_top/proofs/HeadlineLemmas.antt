@@ -1,10 +1,10 @@
 -- Laws of `specs/Headline.antt`: from what was prepared and delivered to what the top call says.
 use Rattle.std.proofs.Common.{◌≡◌, ℕ, zero, suc, ◌<◌, ◌≤◌, Bool, true, refl, sym, subst, inl, inr, ap, take, List, ◌∙◌, arith}
 use Rattle.std.specs.Prelude.{◌⊎◌, Some, None, Result, Ok, Err, MatchBool}
-use Rattle.pw_top.specs.declared.status.Status.{Status}
-use Rattle.pw_top.specs.declared.status.Status.TheVariants as S
-use Rattle.pw_top.specs.declared.work.Store.{Store}
-use Rattle.pw_top.specs.declared.work.Work.{Work}
+use Rattle.run_results.specs.declared.status.Status.{Status}
+use Rattle.run_results.specs.declared.status.Status.TheVariants as S
+use Rattle.run_results.specs.declared.work.Store.{Store}
+use Rattle.run_results.specs.declared.work.Work.{Work}
 use Rattle.pw_outside.specs.Files.{Held}
 use Rattle.pw_outside.specs.Output.{Given, Gave, GavePart}
 use Rattle.pw_outside.specs.Causes.{Rose}

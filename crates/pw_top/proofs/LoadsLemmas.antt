@@ -11,9 +11,9 @@ use Rattle.graph_plan.specs.Conditions.{AreLinesOf}
 use Rattle.script_inputs.specs.Inputs.{nothing_made, plain_kind}
 use Rattle.script_inputs.proofs.LineLemmas as L
 use Rattle.script_inputs.proofs.LineLemmas.{IsUnderWay}
-use Rattle.pw_top.specs.declared.status.Status.{Status}
+use Rattle.run_results.specs.declared.status.Status.{Status}
 use Rattle.pw_top.specs.declared.inputs.PlanInputs.{PlanInputs}
-use Rattle.pw_top.specs.declared.status.Status.TheVariants as S
+use Rattle.run_results.specs.declared.status.Status.TheVariants as S
 use Rattle.pw_top.specs.working.Ending.{Ends, CommandCause}
 use Rattle.pw_top.specs.Loads.{ReadsSource, ReadsOffer, LoadsLine, LoadsAll}
 use Rattle.pw_top.specs.PlanInputs.{nothing_loaded, with_plain, AreSoundInputs, AreInputsOf}

@@ -8,7 +8,7 @@ use Rattle.format_filter.specs.declared.common.Filtered.{Filtered}
 use Rattle.format_filter.specs.declared.common.Filtered.TheVariants.{Common, Clash, Types}
 use Rattle.format_filter.proofs.OneFormatLemmas.{filters_one, written_one}
 use Rattle.wav_files.specs.declared.wav.Wav.{Wav}
-use Rattle.pw_top.specs.declared.status.Status.{Status}
+use Rattle.run_results.specs.declared.status.Status.{Status}
 use Rattle.pw_top.specs.declared.usage.CommandLine.{CommandLine}
 use Rattle.pw_top.specs.declared.usage.CommandLine.TheVariants as C
 use Rattle.pw_top.specs.Answer.{Answer}

@@ -9,15 +9,16 @@ use Rattle.trace_check.specs.declared.trace.Finding.{Finding}
 use Rattle.trace_check.specs.declared.trace.Finding.TheVariants.{Line, Events}
 use Rattle.trace_check.specs.Finding.{IsFindingOn}
 use Rattle.trace_check.proofs.FindingLemmas.{finding_one}
-use Rattle.pw_top.specs.declared.found.What.{What}
-use Rattle.pw_top.specs.declared.found.What.TheVariants.{Nothing, Check}
+use Rattle.run_results.specs.declared.found.What.{What}
+use Rattle.run_results.specs.declared.found.What.TheVariants.{Nothing, Check}
 use Rattle.pw_top.specs.declared.planned.Planned.{Planned}
-use Rattle.pw_top.specs.declared.work.Work.{Work}
+use Rattle.run_results.specs.declared.work.Work.{Work}
 use Rattle.pw_top.specs.Answer.{Answer, Expected}
 use Rattle.pw_top.specs.Allowed.{IsLoad}
-use Rattle.pw_top.specs.Check.{trace_place, trace_bytes_limit, check_work, FindsTrace, ChecksTrace, ChecksPlan, IsCheckAnswer}
-use Rattle.pw_top.specs.Found.{Gives, IsFoundIn, IsFoundUnder, IsFoundByCheck}
+use Rattle.run_results.specs.Places.{trace_place}
+use Rattle.pw_top.specs.Check.{trace_bytes_limit, check_work, FindsTrace, ChecksTrace, ChecksPlan, IsCheckAnswer}
 use Rattle.pw_top.specs.ScriptFile.{PlansFile}
+use Rattle.pw_top.specs.WhatFound.{Gives, IsFoundIn, IsFoundUnder, IsFoundByCheck}
 use Rattle.pw_top.specs.working.Seen.{verdict_by}
 use Rattle.pw_top.proofs.CheckLemmas.{script_names}
 use Rattle.pw_top.proofs.FoundLemmas.{reason_verdict}
@@ -27,12 +28,12 @@ use Rattle.pw_top.proofs.OneRunLemmas.{file_one, planned_whole}
 -- a reason has the verdict's place; where there is none, a line is named
 abbrev pub Says : What → Finding → Type 0
 Says Nothing f = (number : ℕ) × (f ≡ Line number)
-Says (Check reason) f = f ≡ Events (verdict_by reason)
+Says (Check reason event) f = f ≡ Events (verdict_by reason)
 
 says : (names : List (List ℕ)) → AreNames names → (shapes : List Shape) (bytes : List ℕ) (what : What) (f : Finding)
     → IsFoundIn names shapes bytes what → IsFindingOn names shapes bytes f → Says what f
 says names known shapes bytes Nothing f h k = (h.0, finding_one names known shapes bytes f (Line h.0) k h.1)
-says names known shapes bytes (Check reason) f h k =
+says names known shapes bytes (Check reason event) f h k =
     finding_one names known shapes bytes f (Events (verdict_by reason)) k (h.0, h.1, reason_verdict shapes h.0 reason h.2)
 
 -- a part with one answer gives one value

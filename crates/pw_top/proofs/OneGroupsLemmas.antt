@@ -12,7 +12,7 @@ use Rattle.graph_plan.specs.Conditions.{AreScriptPorts}
 use Rattle.graph_plan.proofs.one.OnePartsLemmas.{parted_one}
 use Rattle.pw_top.specs.declared.commands.groups.Grouping.{Grouping}
 use Rattle.pw_top.specs.declared.parted.Parted.{Parted}
-use Rattle.pw_top.specs.declared.status.Status.TheVariants as S
+use Rattle.run_results.specs.declared.status.Status.TheVariants as S
 use Rattle.pw_top.specs.declared.inputs.PlanInputs.{PlanInputs}
 use Rattle.pw_top.specs.Allowed.{Reads}
 use Rattle.pw_top.specs.Groups.{PartsTo, KeepsParts, PartsInputs, PartsFile}

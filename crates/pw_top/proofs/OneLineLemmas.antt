@@ -22,7 +22,7 @@ use Rattle.port_model.specs.declared.port_state.Node.{Node}
 use Rattle.port_model.specs.Narrowing.{Narrows}
 use Rattle.port_model.specs.Offers.{HasFileNumbers}
 use Rattle.port_model.specs.PortState.{IsPort}
-use Rattle.pw_top.specs.declared.status.Status.{Status}
+use Rattle.run_results.specs.declared.status.Status.{Status}
 use Rattle.pw_top.specs.declared.inputs.PlanInputs.{PlanInputs}
 use Rattle.pw_top.specs.Answer.{Expected}
 use Rattle.pw_top.specs.Allowed.{Reads, IsLoad}

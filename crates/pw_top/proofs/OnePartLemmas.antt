@@ -10,9 +10,9 @@ use Rattle.pod_codec.specs.Spelling.{FrontSpells}
 use Rattle.pod_codec.proofs.PodReadings.{reading_of, only_reading}
 use Rattle.format_filter.proofs.AnswerLemmas.{object_fault}
 use Rattle.format_filter.proofs.OneFormatLemmas.{formats_one, object_faultless}
-use Rattle.pw_top.specs.declared.status.Status.{Status}
-use Rattle.pw_top.specs.declared.status.Status.TheVariants as S
-use Rattle.pw_top.specs.declared.status.PodWhy.TheVariants as P
+use Rattle.run_results.specs.declared.status.Status.{Status}
+use Rattle.run_results.specs.declared.status.Status.TheVariants as S
+use Rattle.run_results.specs.declared.status.PodWhy.TheVariants as P
 use Rattle.pw_top.specs.Answer.{Expected, ended, gone_on, load_outcome}
 use Rattle.pw_top.specs.Allowed.{Part, IsLoad, Binds}
 use Rattle.pw_top.specs.Allowed.Binds.{short, stops, goes}

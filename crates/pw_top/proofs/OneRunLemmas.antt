@@ -27,8 +27,8 @@ use Rattle.graph_plan.proofs.PlannedLemmas.{lines_are, named_are}
 use Rattle.pw_top.specs.declared.commands.run.Running.{Running}
 use Rattle.pw_top.specs.declared.planned.Planned.{Planned}
 use Rattle.pw_top.specs.declared.playing.Crew.{Crew}
-use Rattle.pw_top.specs.declared.status.Status.{Status}
-use Rattle.pw_top.specs.declared.status.Status.TheVariants as S
+use Rattle.run_results.specs.declared.status.Status.{Status}
+use Rattle.run_results.specs.declared.status.Status.TheVariants as S
 use Rattle.pw_top.specs.declared.inputs.PlanInputs.{PlanInputs}
 use Rattle.pw_top.specs.declared.loaded_script.LoadedScript.{LoadedScript}
 use Rattle.pw_top.specs.Answer.{Expected}

@@ -3,9 +3,9 @@ use Rattle.std.proofs.Common.{◌≡◌, ℕ, Bool, true, false, sym, subst, ref
 use Rattle.std.specs.Prelude.{◌⊎◌, Result, Ok, Err, MatchBool}
 use Rattle.pw_outside.specs.Files.{Held}
 use Rattle.pw_outside.specs.Output.{Given}
-use Rattle.pw_top.specs.declared.status.Status.{Status}
-use Rattle.pw_top.specs.declared.status.Status.TheVariants as S
-use Rattle.pw_top.specs.declared.work.Work.{Work}
+use Rattle.run_results.specs.declared.status.Status.{Status}
+use Rattle.run_results.specs.declared.status.Status.TheVariants as S
+use Rattle.run_results.specs.declared.work.Work.{Work}
 use Rattle.pw_top.specs.Answer.{Answer, Expected, gone_on}
 use Rattle.pw_top.specs.Allowed.{Binds}
 use Rattle.pw_top.specs.Allowed.Binds.{goes}

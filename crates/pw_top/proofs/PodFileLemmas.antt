@@ -7,9 +7,9 @@ use Rattle.pod_codec.specs.declared.fault.PodFault.TheVariants as F
 use Rattle.pod_codec.specs.Spelling.{FrontSpells}
 use Rattle.pod_codec.specs.FirstFault.{IsFirstFault}
 use Rattle.pod_codec.proofs.PodReadings.{front_fits}
-use Rattle.pw_top.specs.declared.status.Status.{Status}
-use Rattle.pw_top.specs.declared.status.Status.TheVariants as S
-use Rattle.pw_top.specs.declared.status.PodWhy.TheVariants as P
+use Rattle.run_results.specs.declared.status.Status.{Status}
+use Rattle.run_results.specs.declared.status.Status.TheVariants as S
+use Rattle.run_results.specs.declared.status.PodWhy.TheVariants as P
 use Rattle.pw_top.specs.working.Ending.{Ends, is_plain}
 use Rattle.pw_top.specs.Allowed.{Reads}
 use Rattle.pw_top.specs.PodFile.{pod_refusal, HoldsPod, HoldsAs}

@@ -4,9 +4,9 @@ use Rattle.std.specs.Prelude.{◌⊎◌, ◌≢◌, [], take, Some, Option, unwr
 use Rattle.pw_outside.specs.Files.{Names}
 use Rattle.pw_outside.specs.Output.{Given, Gave, GavePart}
 use Rattle.pw_outside.specs.Causes.{Rose}
-use Rattle.pw_top.specs.declared.status.Status.{Status}
-use Rattle.pw_top.specs.declared.status.Status.TheVariants as S
-use Rattle.pw_top.specs.declared.work.Work.{Work}
+use Rattle.run_results.specs.declared.status.Status.{Status}
+use Rattle.run_results.specs.declared.status.Status.TheVariants as S
+use Rattle.run_results.specs.declared.work.Work.{Work}
 use Rattle.pw_top.specs.Answer.{Answer}
 use Rattle.pw_top.specs.Following.{status_of, stores_of, stored_all, text_of, AllStored, CutAt, GaveLine}
 use Rattle.pw_top.specs.FaultCauses.{Caused}

@@ -2,7 +2,7 @@
 use Rattle.std.proofs.Common.{◌≡◌, ◌≤◌, ℕ, Bool, true, false, cond, List, [], ◌∷◌, length, get_or, map, refl, sym, arith, codes}
 use Rattle.std.specs.Prelude.{bytes_eq, Option, Some, None, Result, Ok, Err}
 use Rattle.graph_script.specs.Arguments.{number_of}
-use Rattle.pw_top.specs.declared.status.Status.{Status}
+use Rattle.run_results.specs.declared.status.Status.{Status}
 use Rattle.pw_top.specs.declared.usage.CommandLine.{CommandLine}
 use Rattle.pw_top.specs.declared.usage.FileWords.{FileWords}
 use Rattle.pw_top.specs.declared.usage.FilePair.{FilePair}

@@ -15,11 +15,11 @@ use Rattle.control_sequence.specs.Points.{points_in}
 use Rattle.control_sequence.specs.Automation.{automated}
 use Rattle.wav_files.specs.declared.wav.Wav.{Wav}
 use Rattle.wav_files.specs.WavReading.{wav_of}
-use Rattle.pw_top.specs.declared.status.Status.{Status}
-use Rattle.pw_top.specs.declared.status.Status.TheVariants as S
-use Rattle.pw_top.specs.declared.status.PodWhy.TheVariants as P
-use Rattle.pw_top.specs.declared.work.Content.TheVariants.{Wave}
-use Rattle.pw_top.specs.declared.work.Work.{Work}
+use Rattle.run_results.specs.declared.status.Status.{Status}
+use Rattle.run_results.specs.declared.status.Status.TheVariants as S
+use Rattle.run_results.specs.declared.status.PodWhy.TheVariants as P
+use Rattle.run_results.specs.declared.work.Content.TheVariants.{Wave}
+use Rattle.run_results.specs.declared.work.Work.{Work}
 use Rattle.pw_top.specs.StatusLine.{numbers_line}
 use Rattle.pw_top.specs.Answer.{Answer}
 use Rattle.pw_top.specs.Allowed.{Binds, Reads, IsLoad}

@@ -10,17 +10,15 @@ use Rattle.trace_check.specs.declared.checking.Verdict.TheVariants.{Legal, Illeg
 use Rattle.trace_check.specs.declared.trace.Finding.{Finding}
 use Rattle.trace_check.specs.declared.trace.Finding.TheVariants.{Line, Events}
 use Rattle.trace_check.specs.Finding.{IsFindingOn}
+use Rattle.run_results.specs.Places.{trace_place}
 use Rattle.pw_top.specs.declared.planned.Planned.{Planned}
-use Rattle.pw_top.specs.declared.status.Status.{Status}
-use Rattle.pw_top.specs.declared.work.Work.{Work}
+use Rattle.run_results.specs.declared.status.Status.{Status}
+use Rattle.run_results.specs.declared.work.Work.{Work}
 use Rattle.pw_top.specs.Answer.{Answer}
 use Rattle.pw_top.specs.Allowed.{Binds, Reads, IsLoad}
 use Rattle.pw_top.specs.ScriptFile.{PlansFile}
 
--- the place of the trace, and its bytes, which are more than any run prints
-abbrev pub trace_place : ℕ
-trace_place = 4294967295
-
+-- the bytes of a trace, which are more than any run prints
 abbrev pub trace_bytes_limit : ℕ
 trace_bytes_limit = 268435456
 

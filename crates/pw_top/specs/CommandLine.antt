@@ -2,7 +2,7 @@
 -- Source: this project's own; docs/FORMATS.md.
 use Rattle.std.specs.Prelude.{◌≡◌, Result, Ok, Err}
 use Rattle.pw_outside.specs.Files.{Names}
-use Rattle.pw_top.specs.declared.status.Status.{Status}
+use Rattle.run_results.specs.declared.status.Status.{Status}
 use Rattle.pw_top.specs.declared.usage.CommandLine.{CommandLine}
 use Rattle.pw_top.specs.declared.usage.CommandLine.TheVariants as C
 use Rattle.pw_top.specs.Answer.{Answer, refused}

@@ -12,10 +12,10 @@ use Rattle.format_filter.specs.declared.common.Filtered.{Filtered}
 use Rattle.format_filter.specs.declared.common.Filtered.TheVariants.{Common, Clash, Types}
 use Rattle.format_filter.specs.CommonFormat.{Filters}
 use Rattle.format_filter.specs.FormatWriting.{IsWritten}
-use Rattle.pw_top.specs.declared.status.Status.{Status}
-use Rattle.pw_top.specs.declared.status.Status.TheVariants as S
-use Rattle.pw_top.specs.declared.work.Content.TheVariants.{Bytes}
-use Rattle.pw_top.specs.declared.work.Work.{Work}
+use Rattle.run_results.specs.declared.status.Status.{Status}
+use Rattle.run_results.specs.declared.status.Status.TheVariants as S
+use Rattle.run_results.specs.declared.work.Content.TheVariants.{Bytes}
+use Rattle.run_results.specs.declared.work.Work.{Work}
 use Rattle.pw_top.specs.StatusLine.{numbers_line}
 use Rattle.pw_top.specs.Answer.{Answer}
 use Rattle.pw_top.specs.Allowed.{Binds, Reads, IsLoad}

@@ -4,12 +4,12 @@ use Rattle.pw_outside.specs.Files.{Names, Held, stored}
 use Rattle.pw_outside.specs.Output.{Given, Gave, GavePart}
 use Rattle.pw_outside.specs.Causes.{Rose}
 use Rattle.wav_files.specs.WavWriting.{wav_bytes}
-use Rattle.pw_top.specs.declared.status.Status.{Status}
-use Rattle.pw_top.specs.declared.status.Status.TheVariants as S
-use Rattle.pw_top.specs.declared.work.Content.{Content}
-use Rattle.pw_top.specs.declared.work.Content.TheVariants.{Bytes, Wave}
-use Rattle.pw_top.specs.declared.work.Store.{Store}
-use Rattle.pw_top.specs.declared.work.Work.{Work}
+use Rattle.run_results.specs.declared.status.Status.{Status}
+use Rattle.run_results.specs.declared.status.Status.TheVariants as S
+use Rattle.run_results.specs.declared.work.Content.{Content}
+use Rattle.run_results.specs.declared.work.Content.TheVariants.{Bytes, Wave}
+use Rattle.run_results.specs.declared.work.Store.{Store}
+use Rattle.run_results.specs.declared.work.Work.{Work}
 use Rattle.pw_top.specs.Answer.{Answer}
 use Rattle.pw_top.specs.StatusLine.{line_of}
 

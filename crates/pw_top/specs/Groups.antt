@@ -15,8 +15,8 @@ use Rattle.graph_plan.specs.Parted.{IsParted}
 use Rattle.cycle_model.specs.WavesFit.{WavesFit}
 use Rattle.cycle_trace.specs.Printable.{JoinsPorts}
 use Rattle.pw_top.specs.declared.parted.Parted.{Parted}
-use Rattle.pw_top.specs.declared.status.Status.{Status}
-use Rattle.pw_top.specs.declared.status.Status.TheVariants as S
+use Rattle.run_results.specs.declared.status.Status.{Status}
+use Rattle.run_results.specs.declared.status.Status.TheVariants as S
 use Rattle.pw_top.specs.declared.inputs.PlanInputs.{PlanInputs}
 use Rattle.pw_top.specs.Answer.{Expected}
 use Rattle.pw_top.specs.Allowed.{Binds, Reads}

@@ -8,8 +8,8 @@ use Rattle.cycle_trace.specs.RunText.{run_text_of}
 use Rattle.driver_groups.specs.GroupRun.{AreRunsOf}
 use Rattle.pw_top.specs.declared.commands.groups.Grouping.{Grouping}
 use Rattle.pw_top.specs.declared.parted.Parted.{Parted}
-use Rattle.pw_top.specs.declared.status.Status.{Status}
-use Rattle.pw_top.specs.declared.work.Work.{Work}
+use Rattle.run_results.specs.declared.status.Status.{Status}
+use Rattle.run_results.specs.declared.work.Work.{Work}
 use Rattle.pw_top.specs.Answer.{Answer}
 use Rattle.pw_top.specs.Allowed.{Binds, Reads}
 use Rattle.pw_top.specs.Groups.{PartsFile, parts_outcome}

@@ -4,8 +4,8 @@
 use Rattle.std.specs.Prelude.{◌≡◌, ◌⊎◌, ℕ, IsSome}
 use Rattle.pw_outside.specs.Files.{names_in}
 use Rattle.pw_top.specs.declared.top.Report.{Report}
-use Rattle.pw_top.specs.declared.status.Status.{Status}
-use Rattle.pw_top.specs.declared.status.Status.TheVariants as S
+use Rattle.run_results.specs.declared.status.Status.{Status}
+use Rattle.run_results.specs.declared.status.Status.TheVariants as S
 use Rattle.pw_top.specs.Answer.{Answer}
 use Rattle.pw_top.specs.CommandLine.{IsAnswer}
 use Rattle.pw_top.specs.FaultCauses.{HadNoFault}

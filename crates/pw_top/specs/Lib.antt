@@ -26,11 +26,14 @@ pub mod PodFile
 pub mod Refusals
 pub mod Run
 pub mod ScriptFile
+pub mod ScriptFound
 pub mod SinkStores
 pub mod Soak
 pub mod StatusLine
 pub mod PlanInputs
 pub mod Surely
 pub mod Usage
+pub mod WhatFound
 pub mod Words
+pub mod WorkFound
 pub mod working

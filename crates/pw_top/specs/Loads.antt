@@ -15,7 +15,7 @@ use Rattle.graph_script.specs.declared.script.Line.{Line}
 use Rattle.port_model.specs.declared.narrowing.Narrowed.{Narrowed}
 use Rattle.port_model.specs.declared.port_state.Node.{Node}
 use Rattle.port_model.specs.Narrowing.{Narrows}
-use Rattle.pw_top.specs.declared.status.Status.{Status}
+use Rattle.run_results.specs.declared.status.Status.{Status}
 use Rattle.pw_top.specs.declared.inputs.PlanInputs.{PlanInputs}
 use Rattle.pw_top.specs.Answer.{Expected}
 use Rattle.pw_top.specs.Allowed.{Binds, Reads, IsLoad}

@@ -4,9 +4,9 @@ use Rattle.std.specs.Prelude.{ℕ, List, Result, Ok, Err}
 use Rattle.port_model.specs.declared.narrowing.Narrowed.{Narrowed}
 use Rattle.port_model.specs.declared.narrowing.Narrowed.TheVariants as N
 use Rattle.port_model.specs.declared.port_state.Node.{Node}
-use Rattle.pw_top.specs.declared.status.Status.{Status}
-use Rattle.pw_top.specs.declared.status.Status.TheVariants as S
-use Rattle.pw_top.specs.declared.status.PodWhy.TheVariants as P
+use Rattle.run_results.specs.declared.status.Status.{Status}
+use Rattle.run_results.specs.declared.status.Status.TheVariants as S
+use Rattle.run_results.specs.declared.status.PodWhy.TheVariants as P
 use Rattle.pw_top.specs.declared.inputs.PlanInputs.{PlanInputs}
 
 -- the ports with the narrowed offer; or a refusal at the place of the object

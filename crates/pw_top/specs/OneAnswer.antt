@@ -6,11 +6,11 @@ use Rattle.pw_graph.specs.declared.plan.Plan.{Plan}
 use Rattle.pw_outside.specs.Files.{Names}
 use Rattle.wav_files.specs.declared.outcome.Outcome.{Outcome}
 use Rattle.cycle_trace.specs.RunText.{run_text_of}
-use Rattle.pw_top.specs.declared.status.Status.{Status}
-use Rattle.pw_top.specs.declared.status.Status.TheVariants as S
+use Rattle.run_results.specs.declared.status.Status.{Status}
+use Rattle.run_results.specs.declared.status.Status.TheVariants as S
 use Rattle.pw_top.specs.declared.usage.CommandLine.{CommandLine}
 use Rattle.pw_top.specs.declared.usage.CommandLine.TheVariants as C
-use Rattle.pw_top.specs.declared.work.Work.{Work}
+use Rattle.run_results.specs.declared.work.Work.{Work}
 use Rattle.pw_top.specs.Answer.{Answer}
 use Rattle.pw_top.specs.CommandLine.{IsAnswer}
 use Rattle.pw_top.specs.Playing.{Happened}

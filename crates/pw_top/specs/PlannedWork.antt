@@ -16,10 +16,10 @@ use Rattle.cycle_model.specs.WavesFit.{WavesFit}
 use Rattle.cycle_trace.specs.RunText.{run_text_of}
 use Rattle.pw_top.specs.declared.planned.Planned.{Planned}
 use Rattle.pw_top.specs.declared.playing.Crew.{Crew}
-use Rattle.pw_top.specs.declared.status.Status.{Status}
-use Rattle.pw_top.specs.declared.status.Status.TheVariants as S
+use Rattle.run_results.specs.declared.status.Status.{Status}
+use Rattle.run_results.specs.declared.status.Status.TheVariants as S
 use Rattle.pw_top.specs.declared.inputs.PlanInputs.{PlanInputs}
-use Rattle.pw_top.specs.declared.work.Work.{Work}
+use Rattle.run_results.specs.declared.work.Work.{Work}
 use Rattle.pw_top.specs.Answer.{Answer, Expected}
 use Rattle.pw_top.specs.Allowed.{Binds, Reads}
 use Rattle.pw_top.specs.Playing.{Happened, HasRun}

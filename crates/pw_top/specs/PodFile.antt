@@ -7,9 +7,9 @@ use Rattle.pod_codec.specs.declared.fault.PodFault.{PodFault}
 use Rattle.pod_codec.specs.declared.fault.PodFault.TheVariants as F
 use Rattle.pod_codec.specs.Spelling.{FrontSpells}
 use Rattle.pod_codec.specs.FirstFault.{IsFirstFault}
-use Rattle.pw_top.specs.declared.status.Status.{Status}
-use Rattle.pw_top.specs.declared.status.Status.TheVariants as S
-use Rattle.pw_top.specs.declared.status.PodWhy.TheVariants as P
+use Rattle.run_results.specs.declared.status.Status.{Status}
+use Rattle.run_results.specs.declared.status.Status.TheVariants as S
+use Rattle.run_results.specs.declared.status.PodWhy.TheVariants as P
 
 -- the bytes of a file with one POD, at most
 abbrev pub pod_file_limit : ℕ

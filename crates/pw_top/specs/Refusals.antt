@@ -7,8 +7,8 @@ use Rattle.wav_files.specs.declared.fault.WavFault.TheVariants as F
 use Rattle.graph_script.specs.declared.script.Script.{Script}
 use Rattle.graph_script.specs.declared.fault.ScriptFault.{ScriptFault}
 use Rattle.graph_script.specs.declared.fault.ScriptFault.TheVariants as G
-use Rattle.pw_top.specs.declared.status.Status.{Status}
-use Rattle.pw_top.specs.declared.status.Status.TheVariants as S
+use Rattle.run_results.specs.declared.status.Status.{Status}
+use Rattle.run_results.specs.declared.status.Status.TheVariants as S
 
 -- the source's file is a wave, or refused at its line
 abbrev pub wave_outcome : ℕ → Result Wav WavFault → Result Wav Status

@@ -6,22 +6,10 @@ use Rattle.graph_script.specs.declared.fault.ScriptWhy.{ScriptWhy}
 use Rattle.graph_script.specs.declared.fault.ScriptWhy.TheVariants.{TooMany}
 use Rattle.graph_script.specs.Faults.{why_number}
 use Rattle.wav_files.specs.WavFaults.{wav_fault_number}
-use Rattle.pw_top.specs.declared.status.Status.{Status}
-use Rattle.pw_top.specs.declared.status.Status.TheVariants as S
-use Rattle.pw_top.specs.declared.status.PodWhy.{PodWhy}
-use Rattle.pw_top.specs.declared.status.PodWhy.TheVariants as P
-
-abbrev pub status_number : Status → ℕ
-status_number S.Ok = 0
-status_number (S.Usage word) = 1
-status_number (S.Script line why) = 2
-status_number (S.Wav place why) = 3
-status_number (S.Pod place why) = 4
-status_number (S.Absent place) = 5
-status_number (S.ReadFault place) = 6
-status_number (S.WriteFault place) = 7
-status_number (S.Limit place which) = 8
-status_number S.Memory = 9
+use Rattle.run_results.specs.declared.status.Status.{Status}
+use Rattle.run_results.specs.declared.status.Status.TheVariants as S
+use Rattle.run_results.specs.declared.status.PodWhy.{PodWhy}
+use Rattle.run_results.specs.declared.status.PodWhy.TheVariants as P
 
 -- the number of a script's fault, and the quantity of which there is too much
 abbrev pub script_numbers : ScriptWhy → List ℕ

@@ -4,8 +4,8 @@ use Rattle.std.specs.Prelude.{◌≡◌, ℕ, ◌≤◌, if◌then◌else◌, Li
 use Rattle.ready_queues.specs.Lanes.{loops_limit}
 use Rattle.graph_script.specs.Arguments.{number_of}
 use Rattle.pw_top.specs.declared.options.Options.{Options}
-use Rattle.pw_top.specs.declared.status.Status.{Status}
-use Rattle.pw_top.specs.declared.status.Status.TheVariants as S
+use Rattle.run_results.specs.declared.status.Status.{Status}
+use Rattle.run_results.specs.declared.status.Status.TheVariants as S
 use Rattle.pw_top.specs.declared.usage.CommandLine.{CommandLine}
 use Rattle.pw_top.specs.declared.usage.CommandLine.TheVariants as C
 use Rattle.pw_top.specs.declared.usage.FileWords.{FileWords}

@@ -7,11 +7,10 @@ ghost use Rattle.pw_top.specs.working.Ending.{CanBeWritten, IsStorable};
 ghost use Rattle.pw_top.specs.Following.{bytes_of};
 ghost use Rattle.pw_top.specs.working.Delivery.{StoresDone, TextDone, LineEnds, CanBeDelivered, Delivered};
 
-use crate::status::Status;
 use crate::status_line::{is_lined, status_line};
-use crate::work::{Content, Store, Work};
 use pw_lists::{Items, Memory, Text};
 use pw_outside::{FileFail, Files, Sink};
+use run_results::{Content, Status, Store, Work};
 use std::alloc::Global;
 use wav_files::{Wav, write_wav};
 

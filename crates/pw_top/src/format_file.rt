@@ -7,9 +7,9 @@ ghost use Rattle.pw_top.specs.Allowed.{Reads};
 ghost use Rattle.pw_top.specs.working.Ending.{Ends, CommandCause};
 
 use crate::pod_file::pod_step;
-use crate::status::{PodWhy, Status};
 use format_filter::{Format, FormatFault, format_of};
 use pod_codec::Pod;
+use run_results::{PodWhy, Status};
 use std::alloc::Global;
 
 // The refusal of a value that is no format.

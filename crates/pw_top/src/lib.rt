@@ -4,7 +4,6 @@
 mod commands;
 mod delivering;
 mod format_file;
-mod found;
 mod inputs;
 mod joined;
 mod loaded_script;
@@ -22,18 +21,15 @@ mod pod_file;
 mod points_file;
 mod preparing;
 mod script_loads;
-mod status;
 mod status_line;
 mod surely;
 mod top;
 mod usage;
 mod wave_file;
-mod work;
 
-pub use found::{Found, What};
 pub use one_answer::order_shows_in_events_alone;
 pub use parts_alone::parts_store_as_alone;
-pub use status::{PodWhy, Status};
+pub use run_results::{Content, Found, PodWhy, Status, Store, What, Work};
 pub use surely::run_surely;
 pub use top::{Ran, Report, run_words, run_words_with};
 pub use usage::ticks_of;

@@ -1,7 +1,7 @@
 //! The script of a file, with all that its lines load.
 #![tactic(auto, using(crate::proofs::AllowedLemmas::parts))]
 
-ghost use Rattle.std.specs.Prelude.{◌≡◌, ◌≤◌, length, IfOk};
+ghost use Rattle.std.specs.Prelude.{◌≡◌, ◌≤◌, length, None, IfOk};
 ghost use Rattle.pw_lists.specs.Limits.{script_bytes_limit};
 ghost use Rattle.graph_script.specs.Grammar.{script_of};
 ghost use Rattle.graph_script.specs.Kinds.{HasKinds};
@@ -12,14 +12,15 @@ ghost use Rattle.pw_top.specs.working.Ending.{Ends, CommandCause};
 ghost use Rattle.pw_top.specs.working.Preparing.{LoadsOnly, Tells};
 ghost use Rattle.pw_top.specs.Refusals.{script_outcome};
 ghost use Rattle.pw_top.specs.ScriptFile.{LoadsInputs, ReadsScript, LoadsScript, IsLoadedScript};
+ghost use Rattle.pw_top.specs.ScriptFound.{end_of, IsScriptUnder};
 
 use crate::inputs::PlanInputs;
 use crate::loading::load_step;
 use crate::script_loads::load_all;
-use crate::status::Status;
 use graph_script::{Script, ScriptFault, parse};
 use pw_lists::{Items, SCRIPT_BYTES_LIMIT, Text, Which};
 use pw_outside::Files;
+use run_results::Status;
 use std::alloc::Global;
 
 /// A script, and what its lines have loaded.
@@ -29,15 +30,19 @@ pub struct LoadedScript {
     pub inputs: PlanInputs,
 }
 
-/// The script of a file, and what its lines load, in order.
+/// The script of a file, and what its lines load, in order. The bytes of the script are left in
+/// `source`, whatever is wrong with them.
 pub fn load_script<F: Files>(
     alloc: Global,
     files: &mut F,
     script: &Text,
+    source: &mut Option<Text>,
 ) -> Result<LoadedScript, Status>
+    requires none { source.old ≡ None }
     ensures files { LoadsOnly (F.held files.old) (F.held files.new) (F.load_faults files.old)
         (F.load_faults files.new) (F.store_faults files.old) (F.store_faults files.new) }
     ensures told { Tells (F.held files.old) (λ names. LoadsScript names script.now) result }
+    ensures source { IsScriptUnder (F.held files.old) script.now (end_of result) source.new }
     ensures cause { CommandCause IsLoadedScript (F.load_faults files.old)
         (F.load_faults files.new) result }
 {
@@ -50,7 +55,11 @@ pub fn load_script<F: Files>(
         Which::ScriptBytes,
     ) {
         Err(status) => Err(status),
-        Ok(bytes) => load_read(alloc, files, &bytes),
+        Ok(bytes) => {
+            let loaded = load_read(alloc, files, &bytes);
+            *source = Some(bytes);
+            loaded
+        }
     }
 }
 

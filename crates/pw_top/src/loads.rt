@@ -24,7 +24,6 @@ use crate::format_file::format_step;
 use crate::inputs::PlanInputs;
 use crate::loading::load_step;
 use crate::pod_file::POD_BYTES;
-use crate::status::{PodWhy, Status};
 use crate::wave_file::wave_step;
 use format_filter::Format;
 use graph_script::{Command, Line, kind_made};
@@ -32,6 +31,7 @@ use port_model::Narrowed;
 use pw_graph::{Kind, PortId};
 use pw_lists::{ALL_WAV_BYTES_LIMIT, Items, Memory, Text, WAV_BYTES_LIMIT, Which};
 use pw_outside::Files;
+use run_results::{PodWhy, Status};
 use std::alloc::Global;
 use wav_files::{Wav, WavIn};
 

@@ -7,11 +7,11 @@ ghost use Rattle.pw_top.specs.PlannedWork.{plan_work, if_traced, rendered, IsPla
 ghost use Rattle.pw_top.specs.SinkStores.{makes_sink, sink_line_of, sink_file, sink_store};
 
 use crate::planned::Planned;
-use crate::work::{Content, Store, Work};
 use cycle_trace::run_text;
 use graph_script::{Command, Line};
 use pw_graph::Event;
 use pw_lists::{Items, Memory, Text};
+use run_results::{Content, Store, Work};
 use std::alloc::Global;
 use wav_files::{Kept, Outcome};
 

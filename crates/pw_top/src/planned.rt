@@ -1,7 +1,7 @@
 //! What a script is once all its files are loaded: the script, its waves and its plan.
 #![tactic(auto, using(crate::proofs::AllowedLemmas::parts))]
 
-ghost use Rattle.std.specs.Prelude.{◌≡◌, ◌≤◌, IfOk};
+ghost use Rattle.std.specs.Prelude.{◌≡◌, ◌≤◌, None, IfOk};
 ghost use Rattle.cycle_trace.specs.TraceReading.{AreNames};
 ghost use Rattle.graph_script.specs.Kinds.{HasKinds};
 ghost use Rattle.graph_script.specs.Making.{NamesMade};
@@ -10,18 +10,19 @@ ghost use Rattle.graph_plan.specs.Conditions.{AreScriptPorts, HaveWaves};
 ghost use Rattle.pw_top.specs.working.Ending.{Ends, CommandCause};
 ghost use Rattle.pw_top.specs.working.Preparing.{LoadsOnly, Tells};
 ghost use Rattle.pw_top.specs.ScriptFile.{PlansFile};
+ghost use Rattle.pw_top.specs.ScriptFound.{end_of, IsScriptUnder};
 ghost use Rattle.pw_top.specs.PlanInputs.{AreInputsOf};
 ghost use Rattle.pw_top.specs.PlannedWork.{PlansPorts, PlansInputs, IsPlayable};
 
 use crate::inputs::PlanInputs;
 use crate::loaded_script::{LoadedScript, load_script};
-use crate::status::Status;
 use graph_plan::{PlanFault, plan};
 use graph_script::Script;
 use port_model::Ports;
 use pw_graph::Plan;
 use pw_lists::{Items, Text};
 use pw_outside::Files;
+use run_results::Status;
 use std::alloc::Global;
 use wav_files::WavIn;
 
@@ -74,16 +75,24 @@ pub fn plan_inputs(alloc: Global, script: Script, inputs: PlanInputs) -> Result<
     plan_ports(alloc, script, waves, ports)
 }
 
-/// The plan of the script of a file, whose lines' files are loaded.
-pub fn plan_file<F: Files>(alloc: Global, files: &mut F, script: &Text) -> Result<Planned, Status>
+/// The plan of the script of a file, whose lines' files are loaded. The bytes of the script are
+/// left in `source`.
+pub fn plan_file<F: Files>(
+    alloc: Global,
+    files: &mut F,
+    script: &Text,
+    source: &mut Option<Text>,
+) -> Result<Planned, Status>
+    requires none { source.old ≡ None }
     ensures files { LoadsOnly (F.held files.old) (F.held files.new) (F.load_faults files.old)
         (F.load_faults files.new) (F.store_faults files.old) (F.store_faults files.new) }
     ensures told { Tells (F.held files.old) (λ names. PlansFile names script.now) result }
+    ensures source { IsScriptUnder (F.held files.old) script.now (end_of result) source.new }
     ensures cause { CommandCause IsPlayable (F.load_faults files.old)
         (F.load_faults files.new) result }
     ensures names { IfOk result (λ planned. AreNames planned.script.names) }
 {
-    match load_script(alloc, files, script) {
+    match load_script(alloc, files, script, source) {
         Err(status) => Err(status),
         Ok(LoadedScript { script, inputs }) => plan_inputs(alloc, script, inputs),
     }

@@ -5,9 +5,9 @@ ghost use Rattle.pw_top.specs.PodFile.{pod_refusal, HoldsPod};
 ghost use Rattle.pw_top.specs.Allowed.{Reads};
 ghost use Rattle.pw_top.specs.working.Ending.{Ends, CommandCause};
 
-use crate::status::{PodWhy, Status};
 use pod_codec::{Pod, PodFault, read_pod};
 use pw_lists::POD_BYTES_LIMIT;
+use run_results::{PodWhy, Status};
 use std::alloc::Global;
 
 /// The bytes of a file with one POD, at most.

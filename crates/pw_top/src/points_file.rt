@@ -7,9 +7,9 @@ ghost use Rattle.pw_top.specs.working.Ending.{Ends, CommandCause};
 ghost use Rattle.std.specs.Prelude.{◌≡◌};
 
 use crate::pod_file::pod_step;
-use crate::status::{PodWhy, Status};
 use control_sequence::{ControlFault, Points, controls_of};
 use pod_codec::Pod;
+use run_results::{PodWhy, Status};
 use std::alloc::Global;
 
 // The refusal of a value that gives no points.

@@ -2,9 +2,8 @@
 ghost use Rattle.pw_top.specs.working.Ending.{CommandCause, IsDeliverable};
 ghost use Rattle.pw_top.specs.working.Preparing.{LoadsOnly, Tells};
 
-use crate::status::Status;
-use crate::work::Work;
 use pw_outside::Files;
+use run_results::{Status, Work};
 use std::alloc::Global;
 
 /// A command that runs nothing. It stores and puts nothing either.

@@ -13,11 +13,11 @@ ghost use Rattle.pw_top.specs.Loads.{LoadsAll};
 
 use crate::inputs::PlanInputs;
 use crate::loads::load_line;
-use crate::status::Status;
 use graph_script::Line;
 use port_model::Ports;
 use pw_lists::Items;
 use pw_outside::Files;
+use run_results::Status;
 use std::alloc::Global;
 
 // What lines load, from the first on.

@@ -6,22 +6,23 @@ ghost use Rattle.pw_top.specs.working.Preparing.{LoadsOnly};
 ghost use Rattle.pw_top.specs.Usage.{command_of, HasFewLoops};
 ghost use Rattle.pw_top.specs.CommandLine.{IsAnswerTo, IsAnswer};
 ghost use Rattle.pw_top.specs.FaultCauses.{Caused, IsUsage};
-ghost use Rattle.pw_top.specs.Found.{HasFoundNothing, IsFoundBy, IsFoundOf, IsFound, found_after};
+ghost use Rattle.pw_top.specs.Found.{HasFoundNothing, IsFound, found_after};
 ghost use Rattle.pw_top.specs.Following.{status_of};
 ghost use Rattle.pw_top.specs.Headline.{IsTold, IsComplete, reported};
 ghost use Rattle.pw_top.specs.Outside.{outside};
+ghost use Rattle.pw_top.specs.ScriptFound.{end_of, IsScriptBy, IsScriptOf};
+ghost use Rattle.pw_top.specs.WhatFound.{IsWhatBy, IsWhatOf};
+ghost use Rattle.pw_top.specs.WorkFound.{IsWorkFound, work_in};
 
 use crate::delivering::{deliver, end_line};
-use crate::found::{Found, What};
 use crate::played::Played;
 use crate::preparing::Prepare;
-use crate::status::Status;
 use crate::usage::{CommandLine, read_words};
-use crate::work::Work;
 use board_rule::Closed;
 use pw_graph::Event;
 use pw_lists::Items;
 use pw_outside::{Files, Gate, Sink, Ticker};
+use run_results::{Found, Status, What, Work};
 use std::alloc::Global;
 use std::sync::Wait;
 use std::thread::Threads;
@@ -47,19 +48,24 @@ impl CommandLine {
         ensures told { TellsPlay (F.held files.old) (IsAnswerTo self
             (happened played.new (K.ticks ticker.old) (K.ticks ticker.new)))
             (happened played.new (K.ticks ticker.old) (K.ticks ticker.new)) result }
-        ensures found { OnOk result (IsFoundBy self (F.held files.old) found.new) }
+        ensures script { IsScriptBy self (F.held files.old) (end_of result) found.new.script }
+        ensures what { OnOk result (IsWhatBy self (F.held files.old) found.new.what) }
         ensures cause { CommandCause IsDeliverable (F.load_faults files.old)
             (F.load_faults files.new) result }
         ensures later { K.ticks ticker.old ≤ K.ticks ticker.new }
     {
         match self {
-            CommandLine::Run(command) => command.play(rt, alloc, files, gate, ticker, played),
+            CommandLine::Run(command) => {
+                command.play(rt, alloc, files, gate, ticker, played, &mut found.script)
+            }
             CommandLine::Dump(command) => command.prepare(alloc, files),
             CommandLine::Filter(command) => command.prepare(alloc, files),
             CommandLine::Automate(command) => command.prepare(alloc, files),
             CommandLine::Check(command) => command.find(alloc, files, found),
             CommandLine::Soak(command) => command.play(rt, alloc, gate, ticker, played),
-            CommandLine::Groups(command) => command.play(rt, alloc, files, gate, played),
+            CommandLine::Groups(command) => {
+                command.play(rt, alloc, files, gate, played, &mut found.script)
+            }
         }
     }
 }
@@ -82,8 +88,10 @@ fn prepare_words<R: Threads + Wait + Sync, F: Files, G: Gate + Sync, K: Ticker>(
     ensures told { TellsPlay (F.held files.old) (IsAnswer (map string_bytes words.now)
         (happened played.new (K.ticks ticker.old) (K.ticks ticker.new)))
         (happened played.new (K.ticks ticker.old) (K.ticks ticker.new)) result }
-    ensures found { OnOk result
-        (IsFoundOf (command_of (map string_bytes words.now)) (F.held files.old) found.new) }
+    ensures script { IsScriptOf (command_of (map string_bytes words.now)) (F.held files.old)
+        (end_of result) found.new.script }
+    ensures what { OnOk result
+        (IsWhatOf (command_of (map string_bytes words.now)) (F.held files.old) found.new.what) }
     ensures cause { PrepareCause IsDeliverable (F.load_faults files.old)
         (F.load_faults files.new) result }
     ensures usage { IsUsage (command_of (map string_bytes words.now)) (status_of result) }
@@ -95,13 +103,31 @@ fn prepare_words<R: Threads + Wait + Sync, F: Files, G: Gate + Sync, K: Ticker>(
     }
 }
 
-// What is left of what was found: all of it where all was done, and else nothing.
-fn found_after(status: Status, found: Found) -> Found
-    ensures { result ≡ found_after status found }
+// The work that was prepared.
+fn work_in(made: Result<Work, Status>) -> Option<Work>
+    ensures { result ≡ work_in made }
 {
+    match made {
+        Ok(work) => Some(work),
+        Err(_status) => None,
+    }
+}
+
+// What is left of what was found, and of the work that was prepared: all of it where all was done,
+// and else the script alone.
+fn found_after(status: Status, made: Result<Work, Status>, found: Found) -> Found
+    ensures { result ≡ found_after status made found }
+{
+    let Found { script, what, .. } = found;
     match status {
-        Status::Ok => found,
+        Status::Ok => Found {
+            script,
+            work: work_in(made),
+            what,
+        },
         _ => Found {
+            script,
+            work: None,
             what: What::Nothing,
         },
     }
@@ -126,9 +152,11 @@ pub struct Ran {
 }
 
 /// Does what the words of a command line ask for, as `run_words` does, and answers besides what it
-/// found: where all was done, of `check` the reason for which the events of the trace are no legal
-/// history of the script's plan, and of each other command nothing. Takes no memory for it, and
-/// follows a trace once. It may wait for the loops.
+/// found: the bytes of the script that `run`, `check` and `groups` read, whatever was wrong with
+/// them; where all was done, what was stored and put, and of `check` the reason for which the
+/// events of the trace are no legal history of the script's plan. Nothing is loaded or made for it:
+/// the script, the waves and the text are those of the run, and are held until the answer is
+/// dropped. A trace is followed once. It may wait for the loops.
 pub fn run_words_with<R: Threads + Wait + Sync, F: Files, O: Sink, G: Gate + Sync, K: Ticker>(
     rt: &R,
     alloc: Global,
@@ -150,17 +178,17 @@ pub fn run_words_with<R: Threads + Wait + Sync, F: Files, O: Sink, G: Gate + Syn
         (reported result.report (K.ticks ticker.old) (K.ticks ticker.new)) result.report.status }
     ensures later { K.ticks ticker.old ≤ K.ticks ticker.new }
 
-    // What was found, by the files as they were; nothing where not all was done.
+    // What was found, by the files as they were; and the work, which files and text follow.
     ensures found { IsFound (map string_bytes words.now) (F.held files.old)
         result.report.status result.found }
+    ensures work { IsWorkFound result.report.status (F.held files.old) (F.held files.new)
+        (O.given out.old) (O.given out.new) result.found.work }
 {
     let mut played = Played {
         history: Items::new(alloc),
         closed: Items::new(alloc),
     };
-    let mut found = Found {
-        what: What::Nothing,
-    };
+    let mut found = Found::nothing();
     let made = prepare_words(
         rt,
         alloc,
@@ -180,7 +208,7 @@ pub fn run_words_with<R: Threads + Wait + Sync, F: Files, O: Sink, G: Gate + Syn
             history,
             closed,
         },
-        found: found_after(status, found),
+        found: found_after(status, made, found),
     }
 }
 

@@ -14,9 +14,9 @@ use crate::commands::run::Running;
 use crate::commands::soak::Soaking;
 use crate::options::{Options, read_options};
 use crate::playing::Crew;
-use crate::status::Status;
 use graph_script::number_within;
 use pw_lists::{Items, Text};
+use run_results::Status;
 use std::alloc::Global;
 
 /// What a command line asks for.

@@ -9,8 +9,8 @@ ghost use Rattle.pw_top.specs.Allowed.{Reads};
 ghost use Rattle.pw_top.specs.working.Ending.{Ends, CommandCause};
 ghost use Rattle.pw_top.specs.Refusals.{wave_outcome};
 
-use crate::status::Status;
 use pw_lists::Items;
+use run_results::Status;
 use std::alloc::Global;
 use wav_files::{Wav, WavFault, read_wav};
 

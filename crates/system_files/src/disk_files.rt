@@ -7,6 +7,7 @@ ghost use Rattle.system_files.specs.Disks.{HasStored};
 ghost use Rattle.system_files.specs.KnownFiles.{ReadsFile, WritesWhole};
 
 use crate::disk::{Disk, SystemDisk};
+use crate::why::{FileWhy, TellsWhy, failed};
 use pw_lists::{Items, Memory, Text};
 use pw_outside::{FileFail, Files, Loaded};
 use std::alloc::Global;
@@ -23,6 +24,8 @@ pub struct DiskFiles<D> {
     disk: D,
     load_faults: u64,
     store_faults: u64,
+    /// Why the last call failed, if it did.
+    why: Option<FileWhy>,
 }
 
 impl<'a, R> DiskFiles<SystemDisk<'a, R>> {
@@ -43,6 +46,7 @@ impl<D> DiskFiles<D> {
             disk,
             load_faults: 0,
             store_faults: 0,
+            why: None,
         }
     }
 }
@@ -67,6 +71,7 @@ fn read_more<F: Read>(
     file: &mut F,
     chunk: &mut [u8],
     bytes: &mut Items<u8>,
+    why: &mut Option<FileWhy>,
 ) -> Result<usize, FileFail>
     ensures bound { IfOk result (λ n. n ≤ length chunk.old) }
     // What is appended is from the beginning of what the file has left; nothing is appended only at
@@ -84,7 +89,7 @@ fn read_more<F: Read>(
             Ok(()) => Ok(n),
             Err(_memory) => Err(FileFail::Memory),
         },
-        Err(_error) => Err(FileFail::Failed),
+        Err(error) => Err(failed(error, why)),
     }
 }
 
@@ -94,6 +99,7 @@ fn read_within<F: Read>(
     chunk: &mut [u8],
     bytes: Items<u8>,
     limit: u64,
+    why: &mut Option<FileWhy>,
 ) -> Result<Loaded, FileFail>
     requires chunk { length chunk.old ≡ 65536 }
     requires start { bytes ≡ [] }
@@ -103,7 +109,7 @@ fn read_within<F: Read>(
     let mut bytes = bytes;
     while bytes.len() as u64 <= limit {
         let want = wanted(bytes.len(), limit);
-        let n = read_more(file, &mut chunk[..want], &mut bytes)?;
+        let n = read_more(file, &mut chunk[..want], &mut bytes, why)?;
         if n == 0 {
             return Ok(Loaded::Whole(bytes));
         }
@@ -128,6 +134,7 @@ fn read_file<F: Read + OpenFile>(
     alloc: Global,
     file: &mut F,
     limit: u64,
+    why: &mut Option<FileWhy>,
 ) -> Result<Loaded, FileFail>
     ensures within { IsWithin limit result }
     ensures whole { ReadsFile (F.remaining file.old) limit result }
@@ -142,15 +149,16 @@ fn read_file<F: Read + OpenFile>(
     let Ok(mut chunk) = Items::filled(alloc, CHUNK, 0) else {
         return Err(FileFail::Memory);
     };
-    read_within(file, chunk.as_mut_slice(), bytes, limit)
+    read_within(file, chunk.as_mut_slice(), bytes, limit, why)
 }
 
-// Opens and reads the file of this name.
+// Opens and reads the file of this name. Where that fails, the reason is left in `why`.
 fn load_file<D: Disk>(
     disk: &mut D,
     alloc: Global,
     name: &[u8],
     limit: u64,
+    why: &mut Option<FileWhy>,
 ) -> Result<Loaded, FileFail>
     ensures held { D.held disk.new ≡ D.held disk.old }
     ensures told { IsSome (D.held disk.old)
@@ -161,19 +169,24 @@ fn load_file<D: Disk>(
         return Err(FileFail::Failed);
     };
     match disk.open(path) {
-        Ok(mut file) => read_file(alloc, &mut file, limit),
+        Ok(mut file) => read_file(alloc, &mut file, limit, why),
         Err(error) => {
             if error.kind() == ErrorKind::NotFound {
                 Ok(Loaded::Absent)
             } else {
-                Err(FileFail::Failed)
+                Err(failed(error, why))
             }
         }
     }
 }
 
-/// Writes all bytes, in order. A write that takes nothing is a failure.
-pub(crate) fn write_whole<W: Write>(to: &mut W, bytes: &[u8]) -> Result<(), FileFail>
+/// Writes all bytes, in order. A write that takes nothing is a failure. Where the system gives a
+/// reason, it is left in `why`.
+pub(crate) fn write_whole<W: Write>(
+    to: &mut W,
+    bytes: &[u8],
+    why: &mut Option<FileWhy>,
+) -> Result<(), FileFail>
     ensures { WritesWhole (W.contents to.old) (W.contents to.new) bytes.now result }
 {
     let mut done = 0;
@@ -181,14 +194,19 @@ pub(crate) fn write_whole<W: Write>(to: &mut W, bytes: &[u8]) -> Result<(), File
         match to.write(&bytes[done..]) {
             Ok(0) => return Err(FileFail::Failed),
             Ok(n) => done += n,
-            Err(_error) => return Err(FileFail::Failed),
+            Err(error) => return Err(failed(error, why)),
         }
     }
     Ok(())
 }
 
-// Makes the file of this name anew and writes it.
-fn store_file<D: Disk>(disk: &mut D, name: &[u8], bytes: &[u8]) -> Result<(), FileFail>
+// Makes the file of this name anew and writes it. Where that fails, the reason is left in `why`.
+fn store_file<D: Disk>(
+    disk: &mut D,
+    name: &[u8],
+    bytes: &[u8],
+    why: &mut Option<FileWhy>,
+) -> Result<(), FileFail>
     ensures { HasStored name.now bytes.now (D.held disk.old) (D.held disk.new) result }
 {
     let Ok(path) = str::from_utf8(name) else {
@@ -196,11 +214,11 @@ fn store_file<D: Disk>(disk: &mut D, name: &[u8], bytes: &[u8]) -> Result<(), Fi
     };
     match disk.create(path) {
         Ok(mut file) => {
-            let written = write_whole(&mut file, bytes);
+            let written = write_whole(&mut file, bytes, why);
             disk.give_back(path, file);
             written
         }
-        Err(_error) => Err(FileFail::Failed),
+        Err(error) => Err(failed(error, why)),
     }
 }
 
@@ -225,7 +243,10 @@ impl<D: Disk> Files for DiskFiles<D> {
         ensures told_disk { IsSome (D.held self.old.disk)
             → IsLoaded (names_in (D.held self.old.disk) name.now) limit result }
     {
-        match load_file(&mut self.disk, alloc, name.as_slice(), limit) {
+        let mut why = None;
+        let loaded = load_file(&mut self.disk, alloc, name.as_slice(), limit, &mut why);
+        self.why = why;
+        match loaded {
             Err(FileFail::Failed) => {
                 self.load_faults = self.load_faults.saturating_add(1);
                 Err(FileFail::Failed)
@@ -242,13 +263,24 @@ impl<D: Disk> Files for DiskFiles<D> {
         ensures disk { HasStored name.now bytes.now (D.held self.old.disk) (D.held self.new.disk)
             result }
     {
-        match store_file(&mut self.disk, name.as_slice(), bytes) {
+        let mut why = None;
+        let stored = store_file(&mut self.disk, name.as_slice(), bytes, &mut why);
+        self.why = why;
+        match stored {
             Err(FileFail::Failed) => {
                 self.store_faults = self.store_faults.saturating_add(1);
                 Err(FileFail::Failed)
             }
             other => other,
         }
+    }
+}
+
+impl<D> TellsWhy for DiskFiles<D> {
+    ghost why = { λ files. files.why };
+
+    fn why(&self) -> Option<FileWhy> {
+        self.why
     }
 }
 
@@ -296,18 +328,24 @@ mod tests {
         assert_eq!(rt; files.load_faults, 0);
         assert_eq!(rt; letter(files.load(alloc, &root, 3)), 'f');
         assert_eq!(rt; files.load_faults, 1);
+        assert_eq!(rt; files.why(), Some(FileWhy::Folder));
         assert_eq!(rt; letter(files.load(alloc, &below, 3)), 'f');
         assert_eq!(rt; files.load_faults, 2);
+        assert_eq!(rt; files.why(), Some(FileWhy::NoFolder));
         assert_eq!(rt;
             files.store(alloc, &other, b"".as_slice()),
             Err(FileFail::Failed)
         );
         assert_eq!(rt; files.store_faults, 1);
+        assert_eq!(rt; files.why(), Some(FileWhy::NoFolder));
         assert_eq!(rt;
             files.store(alloc, &full, b"nine".as_slice()),
             Err(FileFail::Failed)
         );
         assert_eq!(rt; files.store_faults, 2);
+        assert_eq!(rt; files.why(), Some(FileWhy::Full));
+        assert_eq!(rt; letter(files.load(alloc, &name, 4)), 'w');
+        assert_eq!(rt; files.why(), None);
         fs::remove_file(&rt, path.as_str())?;
         Ok(())
     }
@@ -379,15 +417,17 @@ mod tests {
         files.disk.refuses = Some(ErrorKind::NotFound);
         assert_eq!(rt; letter(files.load(alloc, &name, 4)), 'a');
         assert_eq!(rt; files.load_faults, 0);
-        for kind in [
-            ErrorKind::PermissionDenied,
-            ErrorKind::NotADirectory,
-            ErrorKind::Interrupted,
+        for (kind, why) in [
+            (ErrorKind::PermissionDenied, Some(FileWhy::Permission)),
+            (ErrorKind::NotADirectory, Some(FileWhy::NoFolder)),
+            (ErrorKind::Interrupted, None),
         ] {
             files.disk.refuses = Some(kind);
             assert_eq!(rt; letter(files.load(alloc, &name, 4)), 'f');
+            assert_eq!(rt; files.why(), why);
             let stored = files.store(alloc, &name, b"nine!".as_slice());
             assert_eq!(rt; stored, Err(FileFail::Failed));
+            assert_eq!(rt; files.why(), why);
         }
         files.disk.refuses = None;
         assert_eq!(rt; letter(files.load(alloc, &no_text, 4)), 'f');

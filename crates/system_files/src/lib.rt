@@ -9,9 +9,11 @@ mod disk_files;
 mod in_memory;
 mod std_sink;
 mod unread;
+mod why;
 
 pub use command_line::{first_without_text, read_words, words_of};
 pub use disk::{Disk, SystemDisk};
 pub use disk_files::DiskFiles;
 pub use std_sink::StdSink;
 pub use unread::Unread;
+pub use why::{FileWhy, TellsWhy};

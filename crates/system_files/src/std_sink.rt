@@ -49,7 +49,7 @@ impl<W: Write> Sink for StdSink<W> {
         ensures written { WritesWhole (W.contents self.old.to) (W.contents self.new.to) bytes.now
             result }
     {
-        match write_whole(&mut self.to, bytes) {
+        match write_whole(&mut self.to, bytes, &mut None) {
             Err(FileFail::Failed) => {
                 self.faults = self.faults.saturating_add(1);
                 Err(FileFail::Failed)

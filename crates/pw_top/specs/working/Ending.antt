@@ -3,12 +3,12 @@
 use Rattle.std.specs.Prelude.{◌≡◌, ℕ, Bool, true, false, ◌<◌, Result, Ok, Err, All, Contains}
 use Rattle.pw_outside.specs.Causes.{Rose}
 use Rattle.wav_files.specs.WavWriting.{IsWave}
-use Rattle.pw_top.specs.declared.status.Status.{Status}
-use Rattle.pw_top.specs.declared.status.Status.TheVariants as S
-use Rattle.pw_top.specs.declared.work.Content.{Content}
-use Rattle.pw_top.specs.declared.work.Content.TheVariants.{Bytes, Wave}
-use Rattle.pw_top.specs.declared.work.Store.{Store}
-use Rattle.pw_top.specs.declared.work.Work.{Work}
+use Rattle.run_results.specs.declared.status.Status.{Status}
+use Rattle.run_results.specs.declared.status.Status.TheVariants as S
+use Rattle.run_results.specs.declared.work.Content.{Content}
+use Rattle.run_results.specs.declared.work.Content.TheVariants.{Bytes, Wave}
+use Rattle.run_results.specs.declared.work.Store.{Store}
+use Rattle.run_results.specs.declared.work.Work.{Work}
 use Rattle.pw_top.specs.Answer.{Expected}
 
 -- the result is the expected one, or a load of it failed, or memory was short

@@ -2,7 +2,7 @@
 -- Source: this project's own.
 use Rattle.std.specs.Prelude.{◌≡◌, ℕ, ◌≤◌, Result, IsSome}
 use Rattle.pw_outside.specs.Files.{Names, Held, names_in}
-use Rattle.pw_top.specs.declared.status.Status.{Status}
+use Rattle.run_results.specs.declared.status.Status.{Status}
 use Rattle.pw_top.specs.Answer.{Expected}
 use Rattle.pw_top.specs.working.Ending.{Ends}
 

@@ -1,7 +1,7 @@
--- What is seen of a trace: its first line that is of no event, or the reason of its events; what
--- the text says of it, and what is found.
+-- What is seen of a trace: its first line that is of no event, or the reason of its events and the
+-- event there; what the text says of it, and what is found.
 -- Source: this project's own; event lines are those of `cycle_trace`.
-use Rattle.std.specs.Prelude.{ℕ, List, Option, Some, None}
+use Rattle.std.specs.Prelude.{◌≡◌, ℕ, List, Option, Some, None}
 use Rattle.std.specs.List.{AllZip}
 use Rattle.pw_graph.specs.declared.event.Event.{Event}
 use Rattle.pw_graph.specs.declared.shape.Shape.{Shape}
@@ -14,14 +14,16 @@ use Rattle.trace_check.specs.declared.trace.Finding.TheVariants as F
 use Rattle.trace_check.specs.Reasons.{IsReasonOn}
 use Rattle.pw_top.specs.declared.commands.check_traces.Seen.{Seen}
 use Rattle.pw_top.specs.declared.commands.check_traces.Seen.TheVariants.{Line, Events}
-use Rattle.pw_top.specs.declared.found.What.{What}
-use Rattle.pw_top.specs.declared.found.What.TheVariants.{Nothing, Check}
+use Rattle.run_results.specs.declared.found.What.{What}
+use Rattle.run_results.specs.declared.found.What.TheVariants.{Nothing, Check}
+use Rattle.pw_top.specs.WhatFound.{event_at}
 
 -- SEEN on a trace, by the names of nodes and the shapes of epochs
 abbrev pub IsSeenOn : List (List ℕ) → List Shape → List ℕ → Seen → Type 0
 IsSeenOn names shapes bytes (Line number) = IsFirstFault names (trace_lines bytes) number
-IsSeenOn names shapes bytes (Events reason) = (events : List Event)
+IsSeenOn names shapes bytes (Events reason event) = (events : List Event)
     × AllZip (IsLineOf names) (trace_lines bytes) events × IsReasonOn shapes events reason
+    × (event ≡ event_at reason events)
 
 -- the verdict has the place of the reason
 abbrev pub verdict_by : Option Reason → Verdict
@@ -30,8 +32,8 @@ verdict_by (Some reason) = Illegal reason.at
 
 abbrev pub finding_by : Seen → Finding
 finding_by (Line number) = F.Line number
-finding_by (Events reason) = F.Events (verdict_by reason)
+finding_by (Events reason event) = F.Events (verdict_by reason)
 
 abbrev pub what_by : Seen → What
 what_by (Line number) = Nothing
-what_by (Events reason) = Check reason
+what_by (Events reason event) = Check reason event

@@ -14,12 +14,11 @@ use crate::loading::load_step;
 use crate::pod_file::POD_BYTES;
 use crate::points_file::points_step;
 use crate::preparing::Prepare;
-use crate::status::Status;
 use crate::wave_file::wave_step;
-use crate::work::{Content, Store, Work};
 use control_sequence::{Automation, Points};
 use pw_lists::{Items, Memory, Text, WAV_BYTES_LIMIT, Which, append_decimal};
 use pw_outside::Files;
+use run_results::{Content, Status, Store, Work};
 use std::alloc::Global;
 use wav_files::Wav;
 

@@ -3,26 +3,25 @@
 //! is the place of the reason.
 #![tactic(auto, using(crate::proofs::AllowedLemmas::parts))]
 
-ghost use Rattle.std.specs.Prelude.{◌≡◌, ◌+◌, ◌<◌, ◌≤◌, ◌^◌, map, length, IsSome, IfOk, OnOk};
+ghost use Rattle.std.specs.Prelude.{◌≡◌, ◌+◌, ◌<◌, ◌≤◌, ◌^◌, map, length, None, IsSome, IfOk, OnOk};
 ghost use Rattle.pw_graph.specs.SoundPlan.{IsSoundPlan};
 ghost use Rattle.pw_outside.specs.Files.{names_in};
 ghost use Rattle.cycle_trace.specs.TraceReading.{AreNames};
 ghost use Rattle.pw_top.specs.Check.{trace_bytes_limit, finding_text, check_work, ChecksTrace, ChecksPlan, IsCheckAnswer};
-ghost use Rattle.pw_top.specs.Found.{IsFoundIn, IsFoundUnder, IsFoundByCheck};
+ghost use Rattle.pw_top.specs.ScriptFound.{end_of, IsScriptUnder};
+ghost use Rattle.pw_top.specs.WhatFound.{event_at, IsFoundIn, IsFoundUnder, IsFoundByCheck};
 ghost use Rattle.pw_top.specs.working.Ending.{Ends, CommandCause, IsDeliverable};
 ghost use Rattle.pw_top.specs.PlannedWork.{IsPlayable};
 ghost use Rattle.pw_top.specs.working.Preparing.{LoadsOnly, Tells};
 ghost use Rattle.pw_top.specs.working.Seen.{IsSeenOn, verdict_by, finding_by, what_by};
 
-use crate::found::{Found, What};
 use crate::loading::load_step;
 use crate::planned::{Planned, plan_file};
-use crate::status::Status;
-use crate::work::Work;
 use cycle_trace::{TraceFault, read_events};
-use pw_graph::Plan;
+use pw_graph::{Event, Plan};
 use pw_lists::{Items, Memory, Text, Which, append_decimal};
 use pw_outside::Files;
+use run_results::{Found, Status, What, Work};
 use std::alloc::Global;
 use trace_check::{Finding, Reason, Verdict, reason_of};
 
@@ -40,36 +39,49 @@ pub struct CheckTrace {
 }
 
 impl CheckTrace {
-    /// Makes the loads in order. What is found of the trace is left in `found`. It stores and puts
-    /// nothing.
+    /// Makes the loads in order. What is found of the trace, and the bytes of the script, are left
+    /// in `found`. It stores and puts nothing.
     pub fn find<F: Files>(
         self,
         alloc: Global,
         files: &mut F,
         found: &mut Found,
     ) -> Result<Work, Status>
+        requires unread { found.old.script ≡ None }
         ensures files { LoadsOnly (F.held files.old) (F.held files.new) (F.load_faults files.old)
             (F.load_faults files.new) (F.store_faults files.old) (F.store_faults files.new) }
         ensures told { Tells (F.held files.old)
             (λ names. IsCheckAnswer names self.script self.trace) result }
-        ensures found { OnOk result (IsSome (F.held files.old)
+        ensures source { IsScriptUnder (F.held files.old) self.script (end_of result)
+            found.new.script }
+        ensures what { OnOk result (IsSome (F.held files.old)
             → IsFoundByCheck (names_in (F.held files.old)) self.script self.trace found.new.what) }
         ensures cause { CommandCause IsDeliverable (F.load_faults files.old)
             (F.load_faults files.new) result }
     {
-        match plan_file(alloc, files, &self.script) {
+        match plan_file(alloc, files, &self.script, &mut found.script) {
             Err(status) => Err(status),
-            Ok(planned) => check_plan(alloc, files, &planned, &self.trace, found),
+            Ok(planned) => check_plan(alloc, files, &planned, &self.trace, &mut found.what),
         }
     }
 }
 
 /// What is seen of a trace: its first line that is of no event, or why its events are no legal
-/// history, if they are none.
+/// history, if they are none, and the event at that place.
 #[derive(Clone, Copy, Debug, Drop)]
 pub(crate) enum Seen {
     Line(u64),
-    Events(Option<Reason>),
+    Events(Option<Reason>, Option<Event>),
+}
+
+// The event at the place of a reason, if there is one.
+fn event_at(reason: Option<Reason>, events: &[Event]) -> Option<Event>
+    ensures { result ≡ event_at reason events.now }
+{
+    match reason {
+        None => None,
+        Some(why) => events.get(why.at.saturating_sub(1) as usize).copied(),
+    }
 }
 
 // Reads a trace, and follows its events.
@@ -83,7 +95,7 @@ fn see(alloc: Global, plan: &Plan, names: &Items<Text>, bytes: &[u8]) -> Result<
         Err(TraceFault::Line(number)) => Ok(Seen::Line(number)),
         Err(TraceFault::Memory) => Err(Memory),
         Ok(events) => match reason_of(alloc, plan, &events) {
-            Ok(reason) => Ok(Seen::Events(reason)),
+            Ok(reason) => Ok(Seen::Events(reason, event_at(reason, events.as_slice()))),
             Err(memory) => Err(memory),
         },
     }
@@ -105,7 +117,7 @@ fn finding_by(seen: Seen) -> Finding
 {
     match seen {
         Seen::Line(number) => Finding::Line(number),
-        Seen::Events(reason) => Finding::Events(verdict_by(reason)),
+        Seen::Events(reason, _event) => Finding::Events(verdict_by(reason)),
     }
 }
 
@@ -115,7 +127,7 @@ fn what_by(seen: Seen) -> What
 {
     match seen {
         Seen::Line(_number) => What::Nothing,
-        Seen::Events(reason) => What::Check { reason },
+        Seen::Events(reason, event) => What::Check { reason, event },
     }
 }
 
@@ -156,20 +168,20 @@ fn check_bytes(
     names: &Items<Text>,
     plan: &Plan,
     bytes: &Items<u8>,
-    found: &mut Found,
+    what: &mut What,
 ) -> Result<Work, Status>
     requires sound { IsSoundPlan plan.now }
     requires names { AreNames names.now }
     requires small { length bytes.now ≤ trace_bytes_limit }
     ensures done { Ends (ChecksTrace names.now plan.now bytes.now) result }
-    ensures found { OnOk result (IsFoundIn names.now (map (λ e. e.shape) plan.now.epochs)
-        bytes.now found.new.what) }
+    ensures what { OnOk result (IsFoundIn names.now (map (λ e. e.shape) plan.now.epochs)
+        bytes.now what.new) }
     ensures cause { CommandCause IsDeliverable 0 0 result }
 {
     match see(alloc, plan, names, bytes.as_slice()) {
         Err(_memory) => Err(Status::Memory),
         Ok(seen) => {
-            found.what = what_by(seen);
+            *what = what_by(seen);
             match check_work(alloc, finding_by(seen)) {
                 Err(_memory) => Err(Status::Memory),
                 Ok(work) => Ok(work),
@@ -184,7 +196,7 @@ fn check_plan<F: Files>(
     files: &mut F,
     planned: &Planned,
     trace: &Text,
-    found: &mut Found,
+    what: &mut What,
 ) -> Result<Work, Status>
     requires planned { IsPlayable planned.now }
     requires names { AreNames planned.now.script.names }
@@ -192,8 +204,8 @@ fn check_plan<F: Files>(
         (F.load_faults files.new) (F.store_faults files.old) (F.store_faults files.new) }
     ensures told { Tells (F.held files.old)
         (λ names. ChecksPlan names trace.now planned.now) result }
-    ensures found { OnOk result (IsSome (F.held files.old)
-        → IsFoundUnder (names_in (F.held files.old)) trace.now planned.now found.new.what) }
+    ensures what { OnOk result (IsSome (F.held files.old)
+        → IsFoundUnder (names_in (F.held files.old)) trace.now planned.now what.new) }
     ensures cause { CommandCause IsDeliverable (F.load_faults files.old)
         (F.load_faults files.new) result }
 {
@@ -206,6 +218,6 @@ fn check_plan<F: Files>(
         Which::TraceBytes,
     ) {
         Err(status) => Err(status),
-        Ok(bytes) => check_bytes(alloc, &planned.script.names, &planned.plan, &bytes, found),
+        Ok(bytes) => check_bytes(alloc, &planned.script.names, &planned.plan, &bytes, what),
     }
 }

@@ -7,11 +7,10 @@ ghost use Rattle.pw_top.specs.Dump.{DumpsPod, DumpsBytes};
 use crate::loading::load_step;
 use crate::pod_file::{POD_BYTES, pod_step};
 use crate::preparing::Prepare;
-use crate::status::Status;
-use crate::work::Work;
 use pod_codec::{Pod, dump_text};
 use pw_lists::{Items, Text, Which};
 use pw_outside::Files;
+use run_results::{Status, Work};
 use std::alloc::Global;
 
 /// Dumps the POD of this file.

@@ -5,7 +5,7 @@
 ghost use Rattle.std.specs.Prelude.{◌≡◌, [], ◌∷◌, ◌++◌, codes, Ok, IfOk};
 ghost use Rattle.format_filter.specs.declared.common.Filtered.TheVariants.{Common};
 ghost use Rattle.format_filter.specs.CommonFormat.{IsSoundFormat};
-ghost use Rattle.pw_top.specs.declared.work.Content.TheVariants as C;
+ghost use Rattle.run_results.specs.declared.work.Content.TheVariants as C;
 ghost use Rattle.pw_top.specs.StatusLine.{numbers_line};
 ghost use Rattle.pw_top.specs.working.Ending.{Ends, CommandCause, IsDeliverable};
 ghost use Rattle.pw_top.specs.working.Preparing.{LoadsOnly, Tells};
@@ -17,12 +17,11 @@ use crate::format_file::format_step;
 use crate::loading::load_step;
 use crate::pod_file::POD_BYTES;
 use crate::preparing::Prepare;
-use crate::status::Status;
-use crate::work::{Content, Store, Work};
 use format_filter::{Filtered, Format, filter, pod_of};
 use pod_codec::{Pod, WriteFault, write_pod};
 use pw_lists::{Items, Memory, Text, Which, append_decimal};
 use pw_outside::Files;
+use run_results::{Content, Status, Store, Work};
 use std::alloc::Global;
 
 /// Filters the objects of two files, A as output, and stores what they have in common under a third

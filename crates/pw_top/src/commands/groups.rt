@@ -2,23 +2,23 @@
 //! its parts is planned, and all are run at once.
 #![tactic(auto, using(crate::proofs::AllowedLemmas::parts))]
 
-ghost use Rattle.std.specs.Prelude.{◌≡◌, ◌≤◌, ℕ, length, IfOk, OnErr};
+ghost use Rattle.std.specs.Prelude.{◌≡◌, ◌≤◌, ℕ, length, None, IfOk, OnErr};
 ghost use Rattle.pw_top.specs.working.Ending.{CommandCause, IsDeliverable};
 ghost use Rattle.pw_top.specs.Groups.{CanBeGrouped, parts_outcome};
 ghost use Rattle.pw_top.specs.GroupsWork.{groups_work, HasGroupsRun, GroupsPlan, IsGroupsAnswer};
 ghost use Rattle.pw_top.specs.Playing.{happened, HasNothing, Plays, TellsPlay};
 ghost use Rattle.pw_top.specs.working.Preparing.{LoadsOnly};
+ghost use Rattle.pw_top.specs.ScriptFound.{end_of, IsScriptUnder};
 
 use crate::joined::{all_of, in_order, joined_plan};
 use crate::parted::{Parted, parts_file};
 use crate::plan_work::sink_stores;
 use crate::played::Played;
-use crate::status::Status;
-use crate::work::Work;
 use cycle_trace::run_text;
 use driver_groups::run_parts;
 use pw_lists::{Items, Memory, Text};
 use pw_outside::{Files, Gate};
+use run_results::{Status, Work};
 use std::alloc::Global;
 use std::sync::Wait;
 use std::thread::Threads;
@@ -31,8 +31,9 @@ pub struct Grouping {
 }
 
 impl Grouping {
-    /// Loads the script and plans its parts, and runs them all. What happened is left in `played`.
-    /// It may wait. No ticker is asked, so its count `n` stays.
+    /// Loads the script and plans its parts, and runs them all. What happened is left in `played`,
+    /// and the bytes of the script in `source`. It may wait. No ticker is asked, so its count `n`
+    /// stays.
     pub fn play<R: Threads + Wait + Sync, F: Files, G: Gate + Sync>(
         self,
         rt: &R,
@@ -40,16 +41,19 @@ impl Grouping {
         files: &mut F,
         gate: &G,
         played: &mut Played,
+        source: &mut Option<Text>,
     ) -> Result<Work, Status>
         requires none { HasNothing played.old }
+        requires unread { source.old ≡ None }
         ensures files { LoadsOnly (F.held files.old) (F.held files.new) (F.load_faults files.old)
             (F.load_faults files.new) (F.store_faults files.old) (F.store_faults files.new) }
         ensures told { (n : ℕ) → TellsPlay (F.held files.old)
             (IsGroupsAnswer self (happened played.new n n)) (happened played.new n n) result }
+        ensures source { IsScriptUnder (F.held files.old) self.script (end_of result) source.new }
         ensures cause { CommandCause IsDeliverable (F.load_faults files.old)
             (F.load_faults files.new) result }
     {
-        match parts_file(alloc, files, &self.script) {
+        match parts_file(alloc, files, &self.script, source) {
             Err(status) => Err(status),
             Ok(parted) => play_parts(rt, alloc, &parted, gate, played),
         }

@@ -2,22 +2,22 @@
 //! is run.
 #![tactic(auto, using(crate::proofs::AllowedLemmas::parts))]
 
-ghost use Rattle.std.specs.Prelude.{◌≤◌};
+ghost use Rattle.std.specs.Prelude.{◌≡◌, ◌≤◌, None};
 ghost use Rattle.ready_queues.specs.Lanes.{loops_limit};
 ghost use Rattle.pw_top.specs.working.Ending.{CommandCause, IsDeliverable};
 ghost use Rattle.pw_top.specs.PlannedWork.{IsPlayable, PlaysPlan};
 ghost use Rattle.pw_top.specs.Playing.{happened, HasNothing, Plays, TellsPlay};
 ghost use Rattle.pw_top.specs.working.Preparing.{LoadsOnly};
 ghost use Rattle.pw_top.specs.Run.{IsRunAnswer};
+ghost use Rattle.pw_top.specs.ScriptFound.{end_of, IsScriptUnder};
 
 use crate::plan_work::plan_work;
 use crate::planned::{Planned, plan_file};
 use crate::played::Played;
 use crate::playing::{Crew, run_planned};
-use crate::status::Status;
-use crate::work::Work;
 use pw_lists::Text;
 use pw_outside::{Files, Gate, Ticker};
+use run_results::{Status, Work};
 use std::alloc::Global;
 use std::sync::Wait;
 use std::thread::Threads;
@@ -62,8 +62,8 @@ impl Running {
         }
     }
 
-    /// Loads and plans the script, and runs its plan. What happened is left in `played`. It may
-    /// wait.
+    /// Loads and plans the script, and runs its plan. What happened is left in `played`, and the
+    /// bytes of the script in `source`. It may wait.
     pub fn play<R: Threads + Wait + Sync, F: Files, G: Gate + Sync, K: Ticker>(
         self,
         rt: &R,
@@ -72,19 +72,22 @@ impl Running {
         gate: &G,
         ticker: &mut K,
         played: &mut Played,
+        source: &mut Option<Text>,
     ) -> Result<Work, Status>
         requires few { self.crew.loops ≤ loops_limit }
         requires none { HasNothing played.old }
+        requires unread { source.old ≡ None }
         ensures files { LoadsOnly (F.held files.old) (F.held files.new) (F.load_faults files.old)
             (F.load_faults files.new) (F.store_faults files.old) (F.store_faults files.new) }
         ensures told { TellsPlay (F.held files.old) (IsRunAnswer self
             (happened played.new (K.ticks ticker.old) (K.ticks ticker.new)))
             (happened played.new (K.ticks ticker.old) (K.ticks ticker.new)) result }
+        ensures source { IsScriptUnder (F.held files.old) self.script (end_of result) source.new }
         ensures cause { CommandCause IsDeliverable (F.load_faults files.old)
             (F.load_faults files.new) result }
         ensures later { K.ticks ticker.old ≤ K.ticks ticker.new }
     {
-        match plan_file(alloc, files, &self.script) {
+        match plan_file(alloc, files, &self.script, source) {
             Err(status) => Err(status),
             Ok(planned) => self.play_planned(rt, alloc, &planned, gate, ticker, played),
         }

@@ -10,10 +10,9 @@ ghost use Rattle.pw_top.specs.Soak.{PlansNumber, SoaksPlan, soak_work, IsSoakAns
 use crate::planned::{Planned, plan_ports};
 use crate::played::Played;
 use crate::playing::{Crew, run_planned};
-use crate::status::Status;
-use crate::work::Work;
 use pw_lists::{Items, Memory};
 use pw_outside::{Gate, Ticker};
+use run_results::{Status, Work};
 use soak_graph::{Generated, generate, soak_line};
 use std::alloc::Global;
 use std::sync::Wait;

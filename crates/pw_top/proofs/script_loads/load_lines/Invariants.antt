@@ -2,7 +2,7 @@ use Rattle.std.proofs.Common.{IsSome, drop}
 use Rattle.std.specs.Prelude.{Result}
 use Rattle.pw_outside.specs.Files.{names_in}
 use Rattle.graph_lines.specs.Start.{kinds_of}
-use Rattle.pw_top.specs.declared.status.Status.{Status}
+use Rattle.run_results.specs.declared.status.Status.{Status}
 use Rattle.pw_top.specs.declared.inputs.PlanInputs.{PlanInputs}
 use Rattle.pw_top.specs.working.Ending.{Ends}
 use Rattle.pw_top.specs.working.Preparing.{LoadsOnly}

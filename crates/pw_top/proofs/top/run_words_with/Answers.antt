@@ -4,6 +4,7 @@ use Rattle.pw_top.specs.working.Delivery.{Delivered}
 use Rattle.pw_top.specs.Found.{IsFound}
 use Rattle.pw_top.specs.Outside.{outside}
 use Rattle.pw_top.specs.Playing.{happened}
+use Rattle.pw_top.specs.WorkFound.{IsWorkFound}
 use Rattle.pw_top.proofs.FoundLemmas.{found_ends}
 use Rattle.pw_top.proofs.HeadlineLemmas.{run_follows, complete}
 use Rattle.pw_top.proofs.PlayingLemmas.{run_played}
@@ -46,6 +47,19 @@ returns-clause-found g c =
     let p = c.prepare_words-made.ensures in
     let status = c.end_line-status.result in
     subst (IsFound (map string_bytes c.args.words.now) (g.F.Files.held c.args.files.now) status) (sym c.found_after.ensures)
-    (found_ends _ _ _ _ _ _ _ _ _ _ _ _ (map string_bytes c.args.words.now) (g.F.Files.held c.args.files.now) c.prepare_words-made.new.found
+    ((found_ends _ _ _ _ _ _ _ _ _ _ _ _ (map string_bytes c.args.words.now) (g.F.Files.held c.args.files.now) c.prepare_words-made.new.found
     c.prepare_words-made.result c.deliver-delivered.result status p.cause c.deliver-delivered.ensures.delivered
-    c.end_line-status.ensures.ends p.found)
+    c.end_line-status.ensures.ends p.script p.what).0)
+
+pub returns-clause-work : goal.returns-clause-work
+returns-clause-work g c =
+    let p = c.prepare_words-made.ensures in
+    let status = c.end_line-status.result in
+    let end = g.F.Files.held c.deliver-delivered.new.files in
+    let work = subst (λ f. IsWorkFound status (g.F.Files.held c.prepare_words-made.new.files) end (g.O.Sink.given c.args.out.now)
+    (g.O.Sink.given c.end_line-status.new.out) f.work) (sym c.found_after.ensures)
+    ((found_ends _ _ _ _ _ _ _ _ _ _ _ _ (map string_bytes c.args.words.now) (g.F.Files.held c.args.files.now) c.prepare_words-made.new.found
+    c.prepare_words-made.result c.deliver-delivered.result status p.cause c.deliver-delivered.ensures.delivered
+    c.end_line-status.ensures.ends p.script p.what).1) in
+    subst (λ held. IsWorkFound status held end (g.O.Sink.given c.args.out.now) (g.O.Sink.given c.end_line-status.new.out)
+    c.found_after.result.work) p.files.held work

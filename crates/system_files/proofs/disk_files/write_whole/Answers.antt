@@ -1,4 +1,4 @@
-use Rattle.std.proofs.Common.{◌≡◌, ◌≤◌, ◌-◌, ◌+◌, length, drop, take, List, ℕ, subst, sym, ap, arith, length-drop}
+use Rattle.std.proofs.Common.{take, List, ℕ, subst, arith, length-drop}
 use Rattle.std.proofs.lemmas.List.{take_rest}
 use Rattle.std.specs.Io.KnownBytes.{Appends}
 use Rattle.system_files.proofs.KnownFilesLemmas.{written_more}

@@ -3,7 +3,7 @@ use Rattle.std.proofs.Common.{[], map, ap, subst, sym, ◌∙◌}
 use Rattle.std.specs.Prelude.{Ok}
 use Rattle.pw_top.specs.working.Seen.{IsSeenOn, finding_by}
 use Rattle.pw_top.specs.Check.{check_work, FindsTrace}
-use Rattle.pw_top.specs.Found.{IsFoundIn}
+use Rattle.pw_top.specs.WhatFound.{IsFoundIn}
 use Rattle.pw_top.proofs.AllowedLemmas.{part_gives}
 use Rattle.pw_top.proofs.FoundLemmas.{seen_finding, seen_found}
 use Rattle.pw_top.proofs.commands.check_traces.check_bytes.Goals as goal
@@ -20,8 +20,8 @@ returns-in-Ok-check_work-clause-done c =
       ap Ok (c.in-Ok-check_work.ensures ∙ ap check_work c.finding_by.ensures),
     )
 
-pub returns-in-Ok-check_work-clause-found : goal.returns-in-Ok-check_work-clause-found
-returns-in-Ok-check_work-clause-found c =
+pub returns-in-Ok-check_work-clause-what : goal.returns-in-Ok-check_work-clause-what
+returns-in-Ok-check_work-clause-what c =
     let names = c.args.names.now in
     let shapes = map (λ e. e.shape) c.args.plan.now.epochs in
     let bytes = c.args.bytes.now in

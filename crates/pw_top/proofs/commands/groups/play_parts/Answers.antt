@@ -3,8 +3,8 @@ use Rattle.std.proofs.Common.{refl, sym, ap, subst, inl, inr, [], length}
 use Rattle.std.specs.Prelude.{Ok}
 use Rattle.wav_files.specs.declared.outcome.Kept.{Kept}
 use Rattle.wav_files.specs.WavWriting.{IsWave}
-use Rattle.pw_top.specs.declared.status.Status.TheVariants as S
-use Rattle.pw_top.specs.declared.work.Work.{Work}
+use Rattle.run_results.specs.declared.status.Status.TheVariants as S
+use Rattle.run_results.specs.declared.work.Work.{Work}
 use Rattle.pw_top.specs.Answer.{ended}
 use Rattle.pw_top.specs.working.Ending.{IsDeliverable}
 use Rattle.pw_top.specs.working.Ending.IsEndOf.{is_end}

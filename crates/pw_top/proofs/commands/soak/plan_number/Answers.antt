@@ -5,7 +5,7 @@ use Rattle.wav_files.specs.declared.wav.WavIn.{WavIn}
 use Rattle.graph_script.specs.declared.script.Script.{Script}
 use Rattle.port_model.specs.declared.port_state.Node.{Node}
 use Rattle.pw_top.specs.declared.planned.Planned.{Planned}
-use Rattle.pw_top.specs.declared.status.Status.{Status}
+use Rattle.run_results.specs.declared.status.Status.{Status}
 use Rattle.pw_top.specs.working.Ending.{Ends}
 use Rattle.pw_top.specs.PlannedWork.{PlansPorts}
 use Rattle.pw_top.proofs.commands.soak.plan_number.Goals as goal

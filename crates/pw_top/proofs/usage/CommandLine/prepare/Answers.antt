@@ -1,9 +1,12 @@
--- Commands other than `run`, `soak` and `groups` run nothing, and those other than `check` find nothing.
-use Rattle.std.proofs.Common.{ℕ}
-use Rattle.std.specs.Prelude.{Result, Ok, Err}
+-- Commands other than `run`, `soak` and `groups` run nothing, those other than `check` find nothing, and those other than `run`,
+-- `check` and `groups` read no script.
+use Rattle.std.proofs.Common.{◌≡◌, ℕ, ap}
+use Rattle.std.specs.Prelude.{None, Result, Ok, Err}
 use Rattle.pw_outside.specs.Files.{names_in}
-use Rattle.pw_top.specs.declared.status.Status.{Status}
-use Rattle.pw_top.specs.declared.work.Work.{Work}
+use Rattle.run_results.specs.declared.found.Found.{Found}
+use Rattle.run_results.specs.declared.found.What.TheVariants.{Nothing}
+use Rattle.run_results.specs.declared.status.Status.{Status}
+use Rattle.run_results.specs.declared.work.Work.{Work}
 use Rattle.pw_top.specs.working.Ending.{CommandCause, IsDeliverable}
 use Rattle.pw_top.specs.Playing.{happened}
 use Rattle.pw_top.specs.Dump.{IsDumpAnswer}
@@ -44,20 +47,57 @@ quiet n (Err status) h = quiet_cause IsDeliverable IsDeliverable n status h
 pub returns-in-Soak-clause-cause : goal.returns-in-Soak-clause-cause
 returns-in-Soak-clause-cause g c = quiet _ c.play-in-Soak.result c.play-in-Soak.ensures.cause
 
-pub returns-in-Run-clause-found : goal.returns-in-Run-clause-found
-returns-in-Run-clause-found g c = rw c.in-Run.is (ok_always c.play.result (HasFoundNothing c.args.found.now) c.requires.unfound)
+-- what was not found yet
+nothing : (found : Found) → HasFoundNothing found → found.what ≡ Nothing
+nothing found h = ap (λ f. f.what) h
 
-pub returns-in-Dump-clause-found : goal.returns-in-Dump-clause-found
-returns-in-Dump-clause-found g c = rw c.in-Dump.is (ok_always c.prepare.result (HasFoundNothing c.args.found.now) c.requires.unfound)
+unread : (found : Found) → HasFoundNothing found → found.script ≡ None
+unread found h = ap (λ f. f.script) h
 
-pub returns-in-Filter-clause-found : goal.returns-in-Filter-clause-found
-returns-in-Filter-clause-found g c = rw c.in-Filter.is (ok_always c.prepare-in-Filter.result (HasFoundNothing c.args.found.now) c.requires.unfound)
+pub returns-in-Run-clause-what : goal.returns-in-Run-clause-what
+returns-in-Run-clause-what g c = rw c.in-Run.is (ok_always c.play.result (c.args.found.now.what ≡ Nothing) (nothing c.args.found.now c.requires.unfound))
 
-pub returns-in-Automate-clause-found : goal.returns-in-Automate-clause-found
-returns-in-Automate-clause-found g c = rw c.in-Automate.is (ok_always c.prepare-in-Automate.result (HasFoundNothing c.args.found.now) c.requires.unfound)
+pub returns-in-Dump-clause-what : goal.returns-in-Dump-clause-what
+returns-in-Dump-clause-what g c = rw c.in-Dump.is (ok_always c.prepare.result (c.args.found.now.what ≡ Nothing) (nothing c.args.found.now c.requires.unfound))
 
-pub returns-in-Soak-clause-found : goal.returns-in-Soak-clause-found
-returns-in-Soak-clause-found g c = rw c.in-Soak.is (ok_always c.play-in-Soak.result (HasFoundNothing c.args.found.now) c.requires.unfound)
+pub returns-in-Filter-clause-what : goal.returns-in-Filter-clause-what
+returns-in-Filter-clause-what g c = rw c.in-Filter.is (ok_always c.prepare-in-Filter.result (c.args.found.now.what ≡ Nothing) (nothing c.args.found.now c.requires.unfound))
 
-pub returns-in-Groups-clause-found : goal.returns-in-Groups-clause-found
-returns-in-Groups-clause-found g c = rw c.in-Groups.is (ok_always c.play-in-Groups.result (HasFoundNothing c.args.found.now) c.requires.unfound)
+pub returns-in-Automate-clause-what : goal.returns-in-Automate-clause-what
+returns-in-Automate-clause-what g c = rw c.in-Automate.is (ok_always c.prepare-in-Automate.result (c.args.found.now.what ≡ Nothing) (nothing c.args.found.now c.requires.unfound))
+
+pub returns-in-Soak-clause-what : goal.returns-in-Soak-clause-what
+returns-in-Soak-clause-what g c = rw c.in-Soak.is (ok_always c.play-in-Soak.result (c.args.found.now.what ≡ Nothing) (nothing c.args.found.now c.requires.unfound))
+
+pub returns-in-Groups-clause-what : goal.returns-in-Groups-clause-what
+returns-in-Groups-clause-what g c = rw c.in-Groups.is (ok_always c.play-in-Groups.result (c.args.found.now.what ≡ Nothing) (nothing c.args.found.now c.requires.unfound))
+
+pub returns-in-Dump-clause-script : goal.returns-in-Dump-clause-script
+returns-in-Dump-clause-script g c = rw c.in-Dump.is (unread c.args.found.now c.requires.unfound)
+
+pub returns-in-Filter-clause-script : goal.returns-in-Filter-clause-script
+returns-in-Filter-clause-script g c = rw c.in-Filter.is (unread c.args.found.now c.requires.unfound)
+
+pub returns-in-Automate-clause-script : goal.returns-in-Automate-clause-script
+returns-in-Automate-clause-script g c = rw c.in-Automate.is (unread c.args.found.now c.requires.unfound)
+
+pub returns-in-Soak-clause-script : goal.returns-in-Soak-clause-script
+returns-in-Soak-clause-script g c = rw c.in-Soak.is (unread c.args.found.now c.requires.unfound)
+
+pub returns-in-Run-clause-script : goal.returns-in-Run-clause-script
+returns-in-Run-clause-script g c = rw c.in-Run.is c.play.ensures.source
+
+pub returns-in-Check-clause-script : goal.returns-in-Check-clause-script
+returns-in-Check-clause-script g c = rw c.in-Check.is c.find.ensures.source
+
+pub returns-in-Groups-clause-script : goal.returns-in-Groups-clause-script
+returns-in-Groups-clause-script g c = rw c.in-Groups.is c.play-in-Groups.ensures.source
+
+pub play-requires-clause-unread : goal.play-requires-clause-unread
+play-requires-clause-unread g c = unread c.args.found.now c.requires.unfound
+
+pub find-requires : goal.find-requires
+find-requires g c = unread c.args.found.now c.requires.unfound
+
+pub play-in-Groups-requires-clause-unread : goal.play-in-Groups-requires-clause-unread
+play-in-Groups-requires-clause-unread g c = unread c.args.found.now c.requires.unfound

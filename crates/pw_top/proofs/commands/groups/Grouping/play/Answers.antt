@@ -1,7 +1,11 @@
 -- What is planned is run; a refusal has run nothing.
+use Rattle.std.proofs.Common.{refl, inl}
 use Rattle.pw_outside.specs.Files.{names_in}
+use Rattle.run_results.specs.declared.status.Status.TheVariants as S
 use Rattle.pw_top.specs.Groups.{PartsFile}
+use Rattle.pw_top.specs.ScriptFound.{end_of}
 use Rattle.pw_top.proofs.PlayingLemmas.{plays_goes, plays_stops}
+use Rattle.pw_top.proofs.FoundLemmas.{script_later}
 use Rattle.pw_top.proofs.commands.groups.Grouping.play.Goals as goal
 
 pub returns-clause-told : goal.returns-clause-told
@@ -11,3 +15,7 @@ returns-clause-told g c = λ n h. plays_goes (PartsFile (names_in (g.F.Files.hel
 pub returns-in-Err-clause-told : goal.returns-in-Err-clause-told
 returns-in-Err-clause-told g c = λ n h. plays_stops (PartsFile (names_in (g.F.Files.held c.args.files.now)) c.args.self.script) _ _ c.in-Err.status
     (c.in-Err.ensures.told h) c.requires.none
+
+pub returns-clause-source : goal.returns-clause-source
+returns-clause-source g c = script_later (g.F.Files.held c.args.files.now) c.args.self.script _ S.Ok (end_of c.play_parts.result) (inl refl)
+    c.in-Ok.ensures.source

@@ -1,8 +1,8 @@
 -- A run gives its work, whose stores can be made; where memory is short for the work, the answer is that of the run.
 use Rattle.std.proofs.Common.{refl, sym, ap, subst, inl, inr, []}
 use Rattle.std.specs.Prelude.{Ok}
-use Rattle.pw_top.specs.declared.status.Status.TheVariants as S
-use Rattle.pw_top.specs.declared.work.Work.{Work}
+use Rattle.run_results.specs.declared.status.Status.TheVariants as S
+use Rattle.run_results.specs.declared.work.Work.{Work}
 use Rattle.pw_top.specs.Answer.{ended}
 use Rattle.pw_top.specs.working.Ending.{IsDeliverable}
 use Rattle.pw_top.specs.working.Ending.IsEndOf.{is_end}
