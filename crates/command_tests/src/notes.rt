@@ -1,8 +1,10 @@
 //! The table of notes: each cause of a link that is not made, sinks and meters without a format,
 //! sinks of one file, of a source's file and without frames, and what a check and a filter find.
 
+use crate::found_values::found_of;
 use fault_messages::explain;
-use pw_top::{Found, Status, What};
+use pw_lists::{Memory, Text};
+use pw_top::{Status, What};
 use row_files::words_of;
 use std::alloc::Global;
 
@@ -187,22 +189,16 @@ const OTHERS: &'static [Noted] = &[
     },
 ];
 
+// What is said of the command of a row.
+fn said_of(alloc: Global, row: Noted) -> Result<Text, Memory> {
+    let words = words_of(alloc, row.command)?;
+    let found = found_of(alloc, row.script, row.told, What::Nothing)?;
+    explain(alloc, &Status::Ok, &found, words.as_slice())
+}
+
 // Whether the notes of a row are as wanted.
 fn is_noted(alloc: Global, row: Noted) -> bool {
-    let Ok(words) = words_of(alloc, row.command) else {
-        return false;
-    };
-    let found = Found {
-        what: What::Nothing,
-    };
-    match explain(
-        alloc,
-        &Status::Ok,
-        &found,
-        words.as_slice(),
-        row.script,
-        row.told,
-    ) {
+    match said_of(alloc, row) {
         Ok(text) => text.as_slice() == row.notes,
         Err(_memory) => false,
     }

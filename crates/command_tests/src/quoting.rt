@@ -1,23 +1,26 @@
 //! The line of a status, quoted from the script that the run read.
 
+use crate::found_values::found_of;
 use fault_messages::explain;
 use graph_script::ScriptWhy;
-use pw_top::{Found, Status, What};
+use pw_lists::{Memory, Text};
+use pw_top::{Status, What};
 use row_files::words_of;
 use std::alloc::Global;
 
 /// A script whose second line names no node, and whose third and fourth have an end that does not.
 const VOX: &'static [u8] = b"gain a 1\non vox\nlink a.out vox.in\nlink vox.out a.in\ngain vox 1\n";
 
-// Whether a status of these words is explained so, where the run read that script.
+// What is said of a status of these words, where the run read that script.
+fn said_of(alloc: Global, command: &str, status: Status) -> Result<Text, Memory> {
+    let words = words_of(alloc, command)?;
+    let found = found_of(alloc, Some(VOX), None, What::Nothing)?;
+    explain(alloc, &status, &found, words.as_slice())
+}
+
+// Whether this is said of it.
 fn is_explained(alloc: Global, command: &str, status: Status, said: &[u8]) -> bool {
-    let Ok(words) = words_of(alloc, command) else {
-        return false;
-    };
-    let found = Found {
-        what: What::Nothing,
-    };
-    match explain(alloc, &status, &found, words.as_slice(), Some(VOX), None) {
+    match said_of(alloc, command, status) {
         Ok(text) => text.as_slice() == said,
         Err(_memory) => false,
     }

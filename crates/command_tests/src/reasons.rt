@@ -1,11 +1,12 @@
 //! What the note on a trace that is no legal history says: a row for each cause, as a script, a
 //! trace, and both outputs whole; and nodes that the script does not name.
 
+use crate::found_values::found_of;
 use fault_messages::explain;
-use pw_lists::{Items, Memory};
+use pw_lists::{Items, Memory, Text};
 use pw_outside::{MemFiles, MemSink};
 use pw_program::run_program;
-use pw_top::{Found, Status, What};
+use pw_top::{Status, What};
 use row_files::{S_WAV, SURE, add, files_of, words_of};
 use std::alloc::Global;
 use std::sync::Wait;
@@ -179,20 +180,23 @@ fn a_trace_that_is_illegal_is_told_by_cause(rt: HostRuntime) {
     assert_eq!(rt; first_unlike(&rt, b"cycles 1\n", DUMMY), None);
 }
 
-// Whether this is said of a node that a start waits for, by a script.
+// What is said of a node that a start waits for, by a script.
+fn said_of(alloc: Global, script: Option<&[u8]>, node: u32) -> Result<Text, Memory> {
+    let words = words_of(alloc, "check s.graph t.txt")?;
+    let what = What::Check {
+        reason: Some(Reason {
+            at: 12,
+            cause: Cause::WaitsFor { node },
+        }),
+        event: None,
+    };
+    let found = found_of(alloc, script, None, what)?;
+    explain(alloc, &Status::Ok, &found, words.as_slice())
+}
+
+// Whether this is said of it.
 fn is_named(alloc: Global, script: Option<&[u8]>, node: u32, said: &[u8]) -> bool {
-    let Ok(words) = words_of(alloc, "check s.graph t.txt") else {
-        return false;
-    };
-    let found = Found {
-        what: What::Check {
-            reason: Some(Reason {
-                at: 12,
-                cause: Cause::WaitsFor { node },
-            }),
-        },
-    };
-    match explain(alloc, &Status::Ok, &found, words.as_slice(), script, None) {
+    match said_of(alloc, script, node) {
         Ok(text) => text.as_slice() == said,
         Err(_memory) => false,
     }

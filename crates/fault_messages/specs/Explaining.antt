@@ -1,5 +1,5 @@
--- The message of a status, with the line of the script that it names, by the bytes of the script
--- that the run read; and the notes on a command that was accepted. Source: this project's own.
+-- The message of a status, with the line of the script that it names; and the notes on a command
+-- that was accepted. Both are made of what the run found. Source: this project's own.
 use Rattle.std.specs.Prelude.{ℕ, List, [], ◌++◌, Option, Some, None, if◌then◌else◌}
 use Rattle.run_results.specs.declared.found.Found.{Found}
 use Rattle.run_results.specs.declared.found.What.{What}
@@ -40,20 +40,19 @@ bytes_in (Some bytes) = bytes
 -- the reason that a check found
 abbrev pub reason_in : What → Option Reason
 reason_in Nothing = None
-reason_in (Check reason) = reason
+reason_in (Check reason event) = reason
 
--- the notes: by the reason, where one was found, and by the text else
-abbrev pub noted_by : Option Reason → Words → Option (List ℕ) → Option (List ℕ) → List ℕ
-noted_by None words script told = notes words script told
-noted_by (Some r) words script told = reason_note words script r
+-- the notes: by the reason, where one was found, and by the work that was done else
+abbrev pub noted_by : Option Reason → Found → Words → List ℕ
+noted_by None found words = notes words found.script found.work
+noted_by (Some r) found words = reason_note words found.script r
 
-abbrev pub noted : Status → Found → Words → Option (List ℕ) → Option (List ℕ) → List ℕ
-noted S.Ok found words script told = noted_by (reason_in found.what) words script told
-noted _ found words script told = []
+abbrev pub noted : Status → Found → Words → List ℕ
+noted S.Ok found words = noted_by (reason_in found.what) found words
+noted _ found words = []
 
--- THE MESSAGE of a status, by what was found, by the words, by the bytes of the script and by the
--- text that was put, where these two are at hand
-unfoldable pub explained : Status → Found → Words → Option (List ℕ) → Option (List ℕ) → List ℕ
-explained status found words script told =
-    message_of status words (line_named (place_of status) words script) (bytes_in script)
-    ++ noted status found words script told
+-- THE MESSAGE of a status, by what the run found and by the words of the command line
+unfoldable pub explained : Status → Found → Words → List ℕ
+explained status found words =
+    message_of status words (line_named (place_of status) words found.script)
+    (bytes_in found.script) ++ noted status found words

@@ -1,7 +1,8 @@
--- Notes on a command that was accepted, by its words, the script that it read and the text that it
--- put. Source: this project's own.
+-- Notes on a command that was accepted, by its words, the script that it read and the work that it
+-- did. Source: this project's own.
 use Rattle.std.specs.Prelude.{ℕ, ◌||◌, List, [], ◌++◌, codes, bytes_eq, Option, Some, None, if◌then◌else◌}
 use Rattle.graph_script.specs.Lexical.{lines_of, words_of}
+use Rattle.pw_top.specs.declared.work.Work.{Work}
 use Rattle.fault_messages.specs.Escaping.{escaped}
 use Rattle.fault_messages.specs.KeyNames.{key_clash}
 use Rattle.fault_messages.specs.LinkNotes.{link_notes}
@@ -55,6 +56,6 @@ notes_told words script told =
     else (if bytes_eq (word words 0) (codes "filter")
     then filter_note words (words_of (first_line told)) else []))
 
-abbrev pub notes : List (List ℕ) → Option (List ℕ) → Option (List ℕ) → List ℕ
+abbrev pub notes : List (List ℕ) → Option (List ℕ) → Option Work → List ℕ
 notes words script None = []
-notes words script (Some told) = notes_told words script told
+notes words script (Some work) = notes_told words script work.text

@@ -61,7 +61,17 @@ fn line_named<'a>(
     }
 }
 
-// The bytes of the script; none where they are not known.
+// The bytes of the script, where it was loaded.
+fn loaded(script: &Option<Text>) -> Option<&[u8]>
+    ensures { option_copied result ≡ script.now }
+{
+    match script {
+        None => None,
+        Some(bytes) => Some(bytes.as_slice()),
+    }
+}
+
+// The same; none where it was not.
 fn bytes_in(script: Option<&[u8]>) -> &[u8]
     ensures { result.now ≡ bytes_in (option_copied script.entry) }
 {
@@ -77,7 +87,7 @@ fn reason_in(what: What) -> Option<Reason>
 {
     match what {
         What::Nothing => None,
-        What::Check { reason } => reason,
+        What::Check { reason, .. } => reason,
     }
 }
 
@@ -85,15 +95,15 @@ fn reason_in(what: What) -> Option<Reason>
 fn put_noted_by(
     text: &mut Text,
     reason: Option<Reason>,
+    found: &Found,
     words: &[String],
-    script: Option<&[u8]>,
-    told: Option<&[u8]>,
 ) -> Result<(), Memory>
-    ensures { OnOk result (text.new ≡ text.old ++ noted_by reason (map string_bytes words.now)
-        (option_copied script.entry) (option_copied told.entry)) }
+    ensures { OnOk result
+        (text.new ≡ text.old ++ noted_by reason found.now (map string_bytes words.now)) }
 {
+    let script = loaded(&found.script);
     match reason {
-        None => put_notes(text, words, script, told),
+        None => put_notes(text, words, script, &found.work),
         Some(reason) => put_reason_note(text, words, script, reason),
     }
 }
@@ -104,39 +114,35 @@ fn put_noted(
     status: &Status,
     found: &Found,
     words: &[String],
-    script: Option<&[u8]>,
-    told: Option<&[u8]>,
 ) -> Result<(), Memory>
-    ensures { OnOk result (text.new ≡ text.old ++ noted status.now found.now
-        (map string_bytes words.now) (option_copied script.entry) (option_copied told.entry)) }
+    ensures { OnOk result
+        (text.new ≡ text.old ++ noted status.now found.now (map string_bytes words.now)) }
 {
     match status {
-        Status::Ok => put_noted_by(text, reason_in(found.what), words, script, told),
+        Status::Ok => put_noted_by(text, reason_in(found.what), found, words),
         _ => Ok(()),
     }
 }
 
-/// The message of a status in words, by what the run found, by the words of the command line
-/// without the program's name, by the bytes of the script that the run read and by the text that it
-/// put, where these two are known. Where the status names a line of a script, the message has the
-/// names of that line. Where all was done, it has a note for each link that was not made, for each
-/// sink and meter without a format, for each sink without frames, for each meter of a script that
-/// makes no cycles, for each sink whose file a later one overwrote or a source reads, and for what
-/// a check or a filter found. Nothing is loaded.
+/// The message of a status in words, by what the run found and by the words of the command line
+/// without the program's name. Where the status names a line of a script, the message has the names
+/// of that line. Where all was done, it has a note for each link that was not made, for each sink
+/// and meter without a format, for each sink without frames, for each meter of a script that makes
+/// no cycles, for each sink whose file a later one writes or a source reads, and for what a check
+/// or a filter found. Nothing is loaded.
 #[tactic(auto, unfolding(crate::specs::Explaining::explained))]
 pub fn explain(
     alloc: Global,
     status: &Status,
     found: &Found,
     words: &[String],
-    script: Option<&[u8]>,
-    told: Option<&[u8]>,
 ) -> Result<Text, Memory>
-    ensures { IfOk result (λ text. text ≡ explained status.now found.now
-        (map string_bytes words.now) (option_copied script.entry) (option_copied told.entry)) }
+    ensures { IfOk result (λ text. text
+        ≡ explained status.now found.now (map string_bytes words.now)) }
 {
+    let script = loaded(&found.script);
     let line = line_named(place_of(status), words, script);
     let mut text = message(alloc, status, words, line, bytes_in(script))?;
-    put_noted(&mut text, status, found, words, script, told)?;
+    put_noted(&mut text, status, found, words)?;
     Ok(text)
 }

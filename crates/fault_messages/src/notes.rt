@@ -12,6 +12,7 @@ use crate::putting::{put_shown, put_shown_pair};
 use crate::reported_lines::first_line;
 use crate::sink_notes::put_sink_notes;
 use pw_lists::{Memory, Text};
+use pw_top::Work;
 
 // Of a run.
 fn put_run_notes(
@@ -136,18 +137,18 @@ fn put_notes_told(
 }
 
 /// What is to be said of a command that was accepted, by its words, by the bytes of the script that
-/// it read and by the text that it put, where these are known.
+/// it read, where there is one, and by what it stored and put.
 pub fn put_notes(
     text: &mut Text,
     words: &[String],
     script: Option<&[u8]>,
-    told: Option<&[u8]>,
+    work: &Option<Work>,
 ) -> Result<(), Memory>
-    ensures { OnOk result (text.new ≡ text.old ++ notes (map string_bytes words.now)
-        (option_copied script.entry) (option_copied told.entry)) }
+    ensures { OnOk result (text.new ≡ text.old
+        ++ notes (map string_bytes words.now) (option_copied script.entry) work.now) }
 {
-    match told {
+    match work {
         None => Ok(()),
-        Some(told) => put_notes_told(text, words, script, told),
+        Some(work) => put_notes_told(text, words, script, work.text.as_slice()),
     }
 }
