@@ -147,8 +147,6 @@ const OTHERS: &'static [Noted] = &[
     Noted {
         command: "check t.graph t.txt",
         told: Some(b"illegal 3\n"),
-        notes: b"pipegraph: t.txt:3: this event cannot come here; \
-            past the last line, the trace ends too soon\n",
         ..RUN
     },
     Noted {

@@ -3,6 +3,7 @@
 
 use crate::found_values::found_of;
 use fault_messages::explain;
+use pw_graph::Event;
 use pw_lists::{Items, Memory, Text};
 use pw_outside::{MemFiles, MemSink};
 use pw_program::run_program;
@@ -27,84 +28,116 @@ const ROWS: &'static [Told] = &[
         b"begin 0\nstart 0 s\nfinish 0 s\nstart 0 o\nfinish 0 o\nstart 0 p\nfinish 0 p\nend 0\n\
             begin 1\n",
         b"illegal 9\n",
-        b"9: no event can come here: the script has no further cycle",
+        b"9: begin 1: no event can come here: the script has no further cycle",
+    ),
+    (
+        b"begin 0\nstart 0 s\nfinish 0 s\nstart 0 o\nfinish 0 o\nstart 0 p\nfinish 0 p\nend 0\n\
+            end 0\n",
+        b"illegal 9\n",
+        b"9: end 0: no event can come here: the script has no further cycle",
     ),
     (
         b"start 0 s\n",
         b"illegal 1\n",
-        b"1: only begin 0 can come here; past the last line, the trace ends too soon",
+        b"1: start 0 s: cycle 0 has not begun, so only begin 0 can come here",
+    ),
+    (
+        b"begin 4294967295\n",
+        b"illegal 1\n",
+        b"1: begin 4294967295: cycle 0 has not begun, so only begin 0 can come here",
     ),
     (
         b"",
         b"illegal 1\n",
-        b"1: only begin 0 can come here; past the last line, the trace ends too soon",
+        b"1: the trace ends too soon: cycle 0 has not begun",
     ),
     (
         b"begin 0\nbegin 0\n",
         b"illegal 2\n",
-        b"2: cycle 0 has begun and not ended; past the last line, the trace ends too soon",
+        b"2: begin 0: cycle 0 has begun and not ended",
+    ),
+    (
+        b"begin 0\nstart 1 s\n",
+        b"illegal 2\n",
+        b"2: start 1 s: cycle 0 has begun and not ended",
     ),
     (
         b"begin 0\nstart 0 s\nfinish 0 s\nstart 0 o\nfinish 0 o\nstart 0 p\nfinish 0 p",
         b"illegal 8\n",
-        b"8: cycle 0 has begun and not ended; past the last line, the trace ends too soon",
+        b"8: the trace ends too soon: cycle 0 has begun and not ended",
     ),
     (
         b"begin 0\nstart 0 s\nfinish 0 s\nend 0\n",
         b"illegal 4\n",
-        b"4: cycle 0 cannot end before \"p\" has finished; \
-            past the last line, the trace ends too soon",
+        b"4: end 0: cycle 0 cannot end before \"p\" has finished",
     ),
     (
         b"begin 0\nstart 0 s\n",
         b"illegal 3\n",
-        b"3: cycle 0 cannot end before \"s\" has finished; \
-            past the last line, the trace ends too soon",
+        b"3: the trace ends too soon: cycle 0 cannot end before \"s\" has finished",
     ),
     (
         b"begin 0\nstart 0 q\n",
         b"illegal 2\n",
-        b"2: its node is not active in this cycle",
+        b"2: start 0 q: \"q\" is not active in cycle 0",
+    ),
+    (
+        b"begin 0\nstart 0 dummy\n",
+        b"illegal 2\n",
+        b"2: start 0 dummy: \"dummy\" is not active in cycle 0",
     ),
     (
         b"begin 0\nstart 0 s\nstart 0 s\n",
         b"illegal 3\n",
-        b"3: its node has started in this cycle already",
+        b"3: start 0 s: \"s\" has started in cycle 0 already",
     ),
     (
         b"begin 0\nstart 0 s\nstart 0 o\n",
         b"illegal 3\n",
-        b"3: its node waits for \"s\", which has not finished in this cycle",
+        b"3: start 0 o: \"o\" waits for \"s\", which has not finished in cycle 0",
     ),
     (
         b"begin 0\nstart 0 s\nfinish 0 s\nstart 0 p\n",
         b"illegal 4\n",
-        b"4: its node waits for \"o\", which has not finished in this cycle",
+        b"4: start 0 p: \"p\" waits for \"o\", which has not finished in cycle 0",
     ),
     (
         b"begin 0\nfinish 0 s\n",
         b"illegal 2\n",
-        b"2: its node has not started in this cycle",
+        b"2: finish 0 s: \"s\" has not started in cycle 0",
     ),
     (
         b"begin 0\nstart 0 s\nfinish 0 s\nfinish 0 s\n",
         b"illegal 4\n",
-        b"4: its node has finished in this cycle already",
+        b"4: finish 0 s: \"s\" has finished in cycle 0 already",
     ),
     (
         b"begin 0\ntick 0 s o\ntick 0 s\n",
         b"illegal 3\n",
-        b"3: a tick has come in this cycle already",
+        b"3: tick 0 s: a tick has come in cycle 0 already",
     ),
     (
         b"begin 0\nstart 0 s\nfinish 0 s\nstart 0 o\nfinish 0 o\nstart 0 p\ntick 0\n",
         b"illegal 7\n",
-        b"7: a tick comes before the driver starts, and it has started",
+        b"7: tick 0: the driver has started in cycle 0, and a tick comes before that",
     ),
     (
         b"begin 0\ntick 0 p\n",
         b"illegal 2\n",
-        b"2: \"p\" cannot be late: it is no active follower, or has finished in this cycle",
+        b"2: tick 0 p: \"p\" cannot be late: it drives cycle 0, is not active in it, \
+            or has finished in it",
+    ),
+    (
+        b"begin 0\ntick 0 s o q dummy\n",
+        b"illegal 2\n",
+        b"2: tick 0 s o q dummy: \"q\" cannot be late: it drives cycle 0, is not active in it, \
+            or has finished in it",
+    ),
+    (
+        b"begin 0\nstart 0 s\nfinish 0 s\ntick 0 s o\n",
+        b"illegal 4\n",
+        b"4: tick 0 s o: \"s\" cannot be late: it drives cycle 0, is not active in it, \
+            or has finished in it",
     ),
 ];
 
@@ -113,18 +146,61 @@ const DUMMY: &'static [Told] = &[
     (
         b"begin 0\nend 0\n",
         b"illegal 2\n",
-        b"2: cycle 0 cannot end before \"dummy\" has finished; \
-            past the last line, the trace ends too soon",
+        b"2: end 0: cycle 0 cannot end before \"dummy\" has finished",
     ),
     (
         b"begin 0\ntick 0 dummy\n",
         b"illegal 2\n",
-        b"2: \"dummy\" cannot be late: it is no active follower, or has finished in this cycle",
+        b"2: tick 0 dummy: \"dummy\" cannot be late: it drives cycle 0, is not active in it, \
+            or has finished in it",
     ),
 ];
 
-// The note on a trace.
+/// Traces of a script without cycles.
+const NONE: &'static [Told] = &[
+    (b"", b"legal\n", b""),
+    (
+        b"begin 0\n",
+        b"illegal 1\n",
+        b"1: begin 0: no event can come here: the script has no further cycle",
+    ),
+];
+
+/// Nodes whose names are words of sentences and of traces, in two epochs; and a trace that leaves
+/// one out in the second.
+const WORDS: &'static [u8] = b"quantum 2\nsource which s.wav\nsink it o.wav\n\
+    link which.out it.in\ncycles 1\ngain start 1\ncycles 1\n";
+
+const NAMED: &'static [Told] = &[
+    (
+        b"begin 0\nstart 0 it\n",
+        b"illegal 2\n",
+        b"2: start 0 it: \"it\" waits for \"which\", which has not finished in cycle 0",
+    ),
+    (
+        b"begin 0\nstart 0 which\nfinish 0 which\nstart 0 it\nfinish 0 it\nstart 0 dummy\n\
+            finish 0 dummy\nend 0\nbegin 1\nstart 1 which\nfinish 1 which\nstart 1 dummy\n",
+        b"illegal 12\n",
+        b"12: start 1 dummy: \"dummy\" waits for \"it\", which has not finished in cycle 1",
+    ),
+    (
+        b"begin 0\nstart 0 which\nfinish 0 which\nstart 0 it\nfinish 0 it\nstart 0 dummy\n\
+            finish 0 dummy\nend 0\n",
+        b"illegal 9\n",
+        b"9: the trace ends too soon: cycle 1 has not begun",
+    ),
+    (
+        b"begin 0\nfinish 0 start\n",
+        b"illegal 2\n",
+        b"2: finish 0 start: \"start\" has not started in cycle 0",
+    ),
+];
+
+// The note on a trace; nothing where nothing is said.
 fn note_of(alloc: Global, said: &[u8]) -> Result<Items<u8>, Memory> {
+    if said.is_empty() {
+        return Ok(Items::new(alloc));
+    }
     let mut note = Items::from_slice(alloc, b"pipegraph: t.txt:".as_slice())?;
     note.extend(said)?;
     note.push(b'\n')?;
@@ -178,64 +254,87 @@ fn first_unlike<R: Threads + Wait + Sync + AllocGlobal>(
 fn a_trace_that_is_illegal_is_told_by_cause(rt: HostRuntime) {
     assert_eq!(rt; first_unlike(&rt, METER, ROWS), None);
     assert_eq!(rt; first_unlike(&rt, b"cycles 1\n", DUMMY), None);
+    assert_eq!(rt; first_unlike(&rt, WORDS, NAMED), None);
+    assert_eq!(rt; first_unlike(&rt, b"gain a 1\n", NONE), None);
 }
 
-// What is said of a node that a start waits for, by a script.
-fn said_of(alloc: Global, script: Option<&[u8]>, node: u32) -> Result<Text, Memory> {
+// What is said of a node for which the node of an event waits, by a script.
+fn said_of(
+    alloc: Global,
+    script: Option<&[u8]>,
+    event: Option<Event>,
+    node: u32,
+) -> Result<Text, Memory> {
     let words = words_of(alloc, "check s.graph t.txt")?;
     let what = What::Check {
         reason: Some(Reason {
             at: 12,
             cause: Cause::WaitsFor { node },
         }),
-        event: None,
+        event,
     };
     let found = found_of(alloc, script, None, what)?;
     explain(alloc, &Status::Ok, &found, words.as_slice())
 }
 
-// Whether this is said of it.
-fn is_named(alloc: Global, script: Option<&[u8]>, node: u32, said: &[u8]) -> bool {
-    match said_of(alloc, script, node) {
+/// A script whose bytes may be at hand, an event, a node for which its node waits, and what is said.
+type Named = (
+    Option<&'static [u8]>,
+    Option<Event>,
+    u32,
+    &'static [u8],
+);
+
+// Whether what is said is as wanted.
+fn is_named(alloc: Global, named: Named) -> bool {
+    let (script, event, node, said) = named;
+    match said_of(alloc, script, event, node) {
         Ok(text) => text.as_slice() == said,
         Err(_memory) => false,
     }
 }
 
+/// Nodes that the script names and does not name, and events that are not of the cause.
+const NODES: &'static [Named] = &[
+    (
+        Some(METER),
+        Some(Event::Start { cycle: 7, node: 2 }),
+        3,
+        b"pipegraph: t.txt:12: start 7 o: \"o\" waits for \"q\", \
+            which has not finished in cycle 7\n",
+    ),
+    (
+        Some(METER),
+        Some(Event::Start { cycle: 7, node: 3 }),
+        4,
+        b"pipegraph: t.txt:12: start 7 q: \"q\" waits for node 4, \
+            which has not finished in cycle 7\n",
+    ),
+    (
+        None,
+        Some(Event::Finish { cycle: 7, node: 1 }),
+        63,
+        b"pipegraph: t.txt:12: finish 7 node 1: node 1 waits for \"dummy\", \
+            which has not finished in cycle 7\n",
+    ),
+    (
+        None,
+        Some(Event::Tick { cycle: 7, late: 9_223_372_036_854_775_809 }),
+        0,
+        b"pipegraph: t.txt:12: tick 7 node 0 dummy: its node waits for node 0, \
+            which has not finished in cycle 7\n",
+    ),
+    (
+        Some(METER),
+        None,
+        0,
+        b"pipegraph: t.txt:12: the trace ends too soon: an event is missing\n",
+    ),
+];
+
 #[test]
 fn a_node_is_named_by_the_script_or_by_its_number(rt: HostRuntime) {
-    let alloc = rt.alloc();
-    let rows = [
-        (
-            Some(METER),
-            3,
-            b"pipegraph: t.txt:12: its node waits for \"q\", \
-                which has not finished in this cycle\n"
-                .as_slice(),
-        ),
-        (
-            Some(METER),
-            4,
-            b"pipegraph: t.txt:12: its node waits for node 4, \
-                which has not finished in this cycle\n"
-                .as_slice(),
-        ),
-        (
-            None,
-            0,
-            b"pipegraph: t.txt:12: its node waits for node 0, \
-                which has not finished in this cycle\n"
-                .as_slice(),
-        ),
-        (
-            None,
-            63,
-            b"pipegraph: t.txt:12: its node waits for \"dummy\", \
-                which has not finished in this cycle\n"
-                .as_slice(),
-        ),
-    ];
-    for (script, node, said) in rows {
-        assert!(rt; is_named(alloc, script, node, said));
+    for named in NODES {
+        assert!(rt; is_named(rt.alloc(), *named));
     }
 }

@@ -6,7 +6,6 @@ use Rattle.run_results.specs.declared.found.What.{What}
 use Rattle.run_results.specs.declared.found.What.TheVariants.{Nothing, Check}
 use Rattle.run_results.specs.declared.status.Status.{Status}
 use Rattle.run_results.specs.declared.status.Status.TheVariants as S
-use Rattle.trace_check.specs.declared.reasons.Reason.{Reason}
 use Rattle.fault_messages.specs.Places.{Words, is_line, line_at}
 use Rattle.fault_messages.specs.Message.{message_of}
 use Rattle.fault_messages.specs.Notes.{notes}
@@ -37,18 +36,14 @@ abbrev pub bytes_in : Option (List ℕ) → List ℕ
 bytes_in None = []
 bytes_in (Some bytes) = bytes
 
--- the reason that a check found
-abbrev pub reason_in : What → Option Reason
-reason_in Nothing = None
-reason_in (Check reason event) = reason
-
--- the notes: by the reason, where one was found, and by the work that was done else
-abbrev pub noted_by : Option Reason → Found → Words → List ℕ
-noted_by None found words = notes words found.script found.work
-noted_by (Some r) found words = reason_note words found.script r
+-- the notes: by the reason of a check, where one was found, and by the work that was done else
+abbrev pub noted_by : What → Found → Words → List ℕ
+noted_by Nothing found words = notes words found.script found.work
+noted_by (Check None event) found words = notes words found.script found.work
+noted_by (Check (Some r) event) found words = reason_note words found.script event r
 
 abbrev pub noted : Status → Found → Words → List ℕ
-noted S.Ok found words = noted_by (reason_in found.what) found words
+noted S.Ok found words = noted_by found.what found words
 noted _ found words = []
 
 -- THE MESSAGE of a status, by what the run found and by the words of the command line

@@ -1,8 +1,10 @@
 pub mod ByteFaults
+pub mod CauseWords
 pub mod CommandForms
 pub mod CycleRoom
 pub mod EmptySinks
 pub mod Escaping
+pub mod EventWords
 pub mod Explaining
 pub mod FileMessages
 pub mod FormMessages

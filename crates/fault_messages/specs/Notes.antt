@@ -2,7 +2,7 @@
 -- did. Source: this project's own.
 use Rattle.std.specs.Prelude.{ℕ, ◌||◌, List, [], ◌++◌, codes, bytes_eq, Option, Some, None, if◌then◌else◌}
 use Rattle.graph_script.specs.Lexical.{lines_of, words_of}
-use Rattle.pw_top.specs.declared.work.Work.{Work}
+use Rattle.run_results.specs.declared.work.Work.{Work}
 use Rattle.fault_messages.specs.Escaping.{escaped}
 use Rattle.fault_messages.specs.KeyNames.{key_clash}
 use Rattle.fault_messages.specs.LinkNotes.{link_notes}
@@ -16,7 +16,7 @@ run_notes words None told = []
 run_notes words (Some script) told = link_notes words 1 (lines_of script) told
     ++ sink_notes words told script 1 (lines_of script)
 
--- of a check: the event of the trace of this number, or the line that is no event
+-- of a check: a line of the trace, and the line that is no event
 unfoldable pub trace_head : List ℕ → List ℕ → List ℕ
 trace_head trace n = codes "pipegraph: " ++ (escaped trace ++ (codes ":" ++ (n ++ codes ": ")))
 
@@ -25,13 +25,10 @@ trace_note words n what = trace_head (word words 2) n ++ (what ++ codes "\n")
 
 abbrev pub check_note : List (List ℕ) → List (List ℕ) → List ℕ
 check_note words ws =
-    if bytes_eq (word ws 0) (codes "illegal")
-    then trace_note words (word ws 1)
-    (codes "this event cannot come here; past the last line, the trace ends too soon")
-    else (if bytes_eq (word ws 0) (codes "line")
+    if bytes_eq (word ws 0) (codes "line")
     then trace_note words (word ws 1)
     (codes "no event line; grep -E '^(begin|start|finish|tick|end) ' takes those of a run's text")
-    else [])
+    else []
 
 -- of a filter: the key under which the objects clash
 unfoldable pub pair_head : List ℕ → List ℕ → List ℕ

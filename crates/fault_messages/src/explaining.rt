@@ -2,7 +2,7 @@
 //! that was accepted.
 ghost use Rattle.std.specs.Prelude.{◌≡◌, ◌++◌, map, string_bytes, option_copied, OnOk, IfOk};
 ghost use Rattle.fault_messages.specs.Explaining.{place_of, line_in, line_named, bytes_in};
-ghost use Rattle.fault_messages.specs.Explaining.{reason_in, noted_by, noted, explained};
+ghost use Rattle.fault_messages.specs.Explaining.{noted_by, noted, explained};
 
 use crate::lines::line_at;
 use crate::notes::put_notes;
@@ -12,7 +12,6 @@ use crate::sentences::message;
 use pw_lists::{Memory, Text};
 use run_results::{Found, Status, What};
 use std::alloc::Global;
-use trace_check::Reason;
 
 // The place that a status names.
 fn place_of(status: &Status) -> Option<u32>
@@ -81,30 +80,25 @@ fn bytes_in(script: Option<&[u8]>) -> &[u8]
     }
 }
 
-// The reason that a check found.
-fn reason_in(what: What) -> Option<Reason>
-    ensures { result ≡ reason_in what }
-{
-    match what {
-        What::Nothing => None,
-        What::Check { reason, .. } => reason,
-    }
-}
-
-// The notes, by the reason where one was found.
+// The notes, by the reason of a check where one was found.
 fn put_noted_by(
     text: &mut Text,
-    reason: Option<Reason>,
+    what: What,
     found: &Found,
     words: &[String],
 ) -> Result<(), Memory>
     ensures { OnOk result
-        (text.new ≡ text.old ++ noted_by reason found.now (map string_bytes words.now)) }
+        (text.new ≡ text.old ++ noted_by what found.now (map string_bytes words.now)) }
 {
     let script = loaded(&found.script);
-    match reason {
-        None => put_notes(text, words, script, &found.work),
-        Some(reason) => put_reason_note(text, words, script, reason),
+    match what {
+        What::Nothing | What::Check { reason: None, .. } => {
+            put_notes(text, words, script, &found.work)
+        }
+        What::Check {
+            reason: Some(reason),
+            event,
+        } => put_reason_note(text, words, script, event, reason),
     }
 }
 
@@ -119,7 +113,7 @@ fn put_noted(
         (text.new ≡ text.old ++ noted status.now found.now (map string_bytes words.now)) }
 {
     match status {
-        Status::Ok => put_noted_by(text, reason_in(found.what), found, words),
+        Status::Ok => put_noted_by(text, found.what, found, words),
         _ => Ok(()),
     }
 }

@@ -5,10 +5,12 @@
 #![tactic(auto)]
 
 mod byte_faults;
+mod cause_words;
 mod command_forms;
 mod cycle_room;
 mod empty_sinks;
 mod escaping;
+mod event_words;
 mod explaining;
 mod file_messages;
 mod form_messages;

@@ -1,9 +1,10 @@
 //! How a node is named that only its number is known of.
 ghost use Rattle.std.specs.Prelude.{◌≡◌, ◌++◌, option_copied, OnOk};
 ghost use Rattle.fault_messages.specs.NodeNames.{is_maker, node_line, is_line_left, left_behind};
-ghost use Rattle.fault_messages.specs.NodeNames.{name_in, line_of_node, node_text};
+ghost use Rattle.fault_messages.specs.NodeNames.{name_in, word_in, line_of_node, node_text, node_word};
 
 use crate::command_forms::node_form;
+use crate::escaping::put_escaped;
 use crate::lines::word_of;
 use crate::putting::put_quoted;
 use pw_lists::{Memory, Text, append_decimal, next_piece};
@@ -93,7 +94,34 @@ pub fn put_node(text: &mut Text, script: Option<&[u8]>, number: u32) -> Result<(
     }
 }
 
-/// The same between words.
+// The name that a line gives a node, without quotes, or its number where there is no line.
+fn put_word_in(text: &mut Text, line: Option<&[u8]>, number: u32) -> Result<(), Memory>
+    ensures { OnOk result (text.new ≡ text.old ++ word_in (option_copied line.entry) number) }
+{
+    match line {
+        None => {
+            text.extend(b"node ")?;
+            append_decimal(text, u64::from(number))
+        }
+        Some(line) => put_escaped(text, word_of(line, 1)),
+    }
+}
+
+/// The name of a node as a trace has it, by its number and by the bytes of the script, where these
+/// are known. Cost: one look at each byte.
+#[tactic(auto, unfolding(crate::specs::NodeNames::node_word))]
+pub fn put_node_word(text: &mut Text, script: Option<&[u8]>, number: u32) -> Result<(), Memory>
+    ensures { OnOk result
+        (text.new ≡ text.old ++ node_word (option_copied script.entry) number) }
+{
+    if number == DUMMY_NODE {
+        text.extend(b"dummy")
+    } else {
+        put_word_in(text, line_of_node(script, number), number)
+    }
+}
+
+/// The name of a node in quotes, between words.
 pub fn put_node_between(
     text: &mut Text,
     before: &[u8],

@@ -12,7 +12,7 @@ use crate::putting::{put_shown, put_shown_pair};
 use crate::reported_lines::first_line;
 use crate::sink_notes::put_sink_notes;
 use pw_lists::{Memory, Text};
-use pw_top::Work;
+use run_results::Work;
 
 // Of a run.
 fn put_run_notes(
@@ -61,24 +61,15 @@ fn put_check_note(text: &mut Text, words: &[String], line: &[u8]) -> Result<(), 
     ensures { OnOk result
         (text.new ≡ text.old ++ check_note (map string_bytes words.now) (words_of line.now)) }
 {
-    let (answer, number) = (word_of(line, 0), word_of(line, 1));
-    if answer == b"illegal".as_slice() {
-        put_trace_note(
-            text,
-            words,
-            number,
-            b"this event cannot come here; past the last line, the trace ends too soon",
-        )
-    } else if answer == b"line".as_slice() {
-        put_trace_note(
-            text,
-            words,
-            number,
-            b"no event line; grep -E '^(begin|start|finish|tick|end) ' takes those of a run's text",
-        )
-    } else {
-        Ok(())
+    if word_of(line, 0) != b"line".as_slice() {
+        return Ok(());
     }
+    put_trace_note(
+        text,
+        words,
+        word_of(line, 1),
+        b"no event line; grep -E '^(begin|start|finish|tick|end) ' takes those of a run's text",
+    )
 }
 
 // The two files of a filter, at the beginning of a note.
