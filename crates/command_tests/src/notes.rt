@@ -71,8 +71,8 @@ const SINKS: &'static [Noted] = &[
     Noted {
         script: Some(b"sink o o.wav\nsink p o.wav\nsink q q.wav\nsink r o.wav\nsink s s.wav\n"),
         told: Some(b"wrote o 4\nwrote p 4\nwrote q 4\nunused r\nunused s\n"),
-        notes: b"pipegraph: t.graph:1: \"o.wav\" is written by a later sink too, \
-            whose frames stand\n\
+        notes: b"pipegraph: t.graph:1: \"o.wav\" is written by a later sink too; \
+            a regular file keeps what is written last\n\
             pipegraph: t.graph:4: \"r\" had no format at the end, \
             so it does not write \"o.wav\", which another sink writes\n\
             pipegraph: t.graph:5: \"s\" had no format at the end, so it does not write \"s.wav\"\n",
@@ -81,10 +81,12 @@ const SINKS: &'static [Noted] = &[
     Noted {
         script: Some(b"sink o v.wav\nsource v v.wav\nsink p v.wav\nsink q v.wav\ncycles 2\n"),
         told: Some(b"wrote o 4\nwrote p 8\nunused q\n"),
-        notes: b"pipegraph: t.graph:1: \"v.wav\" is written by a later sink too, \
-            whose frames stand\n\
-            pipegraph: t.graph:1: \"v.wav\" is a source's file too, and was overwritten\n\
-            pipegraph: t.graph:3: \"v.wav\" is a source's file too, and was overwritten\n\
+        notes: b"pipegraph: t.graph:1: \"v.wav\" is written by a later sink too; \
+            a regular file keeps what is written last\n\
+            pipegraph: t.graph:1: \"v.wav\" is a source's file too: \
+            it was read first, and written after that\n\
+            pipegraph: t.graph:3: \"v.wav\" is a source's file too: \
+            it was read first, and written after that\n\
             pipegraph: t.graph:4: \"q\" had no format at the end, \
             so it does not write \"v.wav\", which another sink writes\n",
         ..RUN
@@ -96,7 +98,8 @@ const EMPTY: &'static [Noted] = &[
     Noted {
         script: Some(b"# cycles 1\nsink o n1.wav\nmeter m\nmeter cycles\nsource v n1.wav\n"),
         told: Some(b"wrote o 0\npeak m 0\nunused cycles\n"),
-        notes: b"pipegraph: t.graph:2: \"n1.wav\" is a source's file too, and was overwritten\n\
+        notes: b"pipegraph: t.graph:2: \"n1.wav\" is a source's file too: \
+            it was read first, and written after that\n\
             pipegraph: t.graph:2: \"o\" has no frames, so what it writes to \"n1.wav\" is an empty \
             WAV file: the script has no cycles line and no drain line\n\
             pipegraph: t.graph:3: \"m\" got no frames, so its peak is 0: \

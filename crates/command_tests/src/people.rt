@@ -490,7 +490,8 @@ const SINKS: &'static [Asked] = &[
         script: b"quantum 2\nsource s s.wav\nsink o s.wav\nlink s.out o.in\ncycles 2\n",
         code: 0,
         out: b"link s.out o.in 48000 1 2\nwrote o 4\n",
-        said: b"s.graph:3: \"s.wav\" is a source's file too, and was overwritten",
+        said: b"s.graph:3: \"s.wav\" is a source's file too: it was read first, \
+            and written after that",
         ..RUN
     },
     Asked {

@@ -20,7 +20,8 @@ is_written told file lines = list_any (writes told file) lines
 
 -- THE NOTE on a file that a sink of these lines writes, which are after its own sink's
 unfoldable pub overwritten : List ℕ → List ℕ
-overwritten file = quoted file ++ codes " is written by a later sink too, whose frames stand"
+overwritten file = quoted file
+    ++ codes " is written by a later sink too; a regular file keeps what is written last"
 
 abbrev pub later_note : Words → List ℕ → ℕ → List ℕ → Words → List ℕ
 later_note words told n file later =
@@ -28,7 +29,8 @@ later_note words told n file later =
 
 -- THE NOTE on a file that a source of the script reads
 unfoldable pub read_too : List ℕ → List ℕ
-read_too file = quoted file ++ codes " is a source's file too, and was overwritten"
+read_too file = quoted file
+    ++ codes " is a source's file too: it was read first, and written after that"
 
 abbrev pub source_note : Words → List ℕ → ℕ → List ℕ → List ℕ
 source_note words script n file =

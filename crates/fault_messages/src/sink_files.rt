@@ -60,7 +60,7 @@ fn put_overwritten(text: &mut Text, file: &[u8]) -> Result<(), Memory>
     put_behind(
         text,
         file,
-        b" is written by a later sink too, whose frames stand",
+        b" is written by a later sink too; a regular file keeps what is written last",
     )
 }
 
@@ -89,7 +89,11 @@ pub fn put_later_note(
 fn put_read_too(text: &mut Text, file: &[u8]) -> Result<(), Memory>
     ensures { OnOk result (text.new ≡ text.old ++ read_too file.now) }
 {
-    put_behind(text, file, b" is a source's file too, and was overwritten")
+    put_behind(
+        text,
+        file,
+        b" is a source's file too: it was read first, and written after that",
+    )
 }
 
 /// The note on a file that a source of the script reads.
