@@ -1,19 +1,21 @@
 //! The table of notes: each cause of a link that is not made, sinks and meters without a format,
-//! sinks of one file, of a source's file and without frames, and what a check and a filter find.
+//! sinks of one file, of a source's file, without frames and with samples at a limit, and what a
+//! check and a filter find.
 
-use crate::found_values::found_of;
+use crate::found_values::{Stored, found_of};
 use fault_messages::explain;
 use pw_lists::{Memory, Text};
 use pw_top::{Status, What};
 use row_files::words_of;
 use std::alloc::Global;
 
-/// A command, its script and the text that it has put, and what is noted.
+/// A command, its script, the text that it has put and what its sinks stored, and what is noted.
 #[derive(Clone, Copy, Drop)]
 struct Noted {
     command: &'static str,
     script: Option<&'static [u8]>,
     told: Option<&'static [u8]>,
+    stored: &'static [Stored],
     notes: &'static [u8],
 }
 
@@ -22,6 +24,7 @@ const RUN: Noted = Noted {
     command: "run t.graph --trace",
     script: Some(b"# link a.out b.in\nsource s s.wav\nsink o o.wav\n\nlink s.out o.in\ncycles 1\n"),
     told: Some(b"link s.out o.in 48000 1 2\nbegin 0\nend 0\nwrote o 4\n"),
+    stored: &[],
     notes: b"",
 };
 
@@ -98,6 +101,7 @@ const EMPTY: &'static [Noted] = &[
     Noted {
         script: Some(b"# cycles 1\nsink o n1.wav\nmeter m\nmeter cycles\nsource v n1.wav\n"),
         told: Some(b"wrote o 0\npeak m 0\nunused cycles\n"),
+        stored: &[(2, &[])],
         notes: b"pipegraph: t.graph:2: \"n1.wav\" is a source's file too: \
             it was read first, and written after that\n\
             pipegraph: t.graph:2: \"o\" has no frames, so what it writes to \"n1.wav\" is an empty \
@@ -110,6 +114,7 @@ const EMPTY: &'static [Noted] = &[
     Noted {
         script: Some(b"sink o o.wav\nmeter m\n\tdrain\r\n"),
         told: Some(b"wrote o 0\npeak m 0\n"),
+        stored: &[(1, &[])],
         notes: b"pipegraph: t.graph:1: \"o\" has no frames, so what it writes to \"o.wav\" \
             is an empty WAV file: it was active in no cycle since it got its format; \
             drain goes on only while an active source has frames left; \
@@ -119,6 +124,7 @@ const EMPTY: &'static [Noted] = &[
     Noted {
         script: Some(b"sink o o.wav\nmeter m\nsink p p.wav\ndrain\ncycles 3\n"),
         told: Some(b"wrote o 0\npeak m 0\nwrote p 10\n"),
+        stored: &[(1, &[]), (3, &[0])],
         notes: b"pipegraph: t.graph:1: \"o\" has no frames, so what it writes to \"o.wav\" \
             is an empty WAV file: it was active in no cycle since it got its format; \
             groups gives each linked part a driver of its own\n",
@@ -128,6 +134,7 @@ const EMPTY: &'static [Noted] = &[
         command: "groups t.graph",
         script: Some(b"sink o o.wav\nsink p p.wav\ncycles 3\n"),
         told: Some(b"wrote o 0\nwrote p 0\n"),
+        stored: &[(1, &[]), (2, &[])],
         notes: b"pipegraph: t.graph:1: \"o\" has no frames, so what it writes to \"o.wav\" \
             is an empty WAV file: it was active in no cycle since it got its format\n\
             pipegraph: t.graph:2: \"p\" has no frames, so what it writes to \"p.wav\" is an empty \
@@ -138,9 +145,48 @@ const EMPTY: &'static [Noted] = &[
         command: "groups t.graph",
         script: Some(b"sink o o.wav\ndrain\n"),
         told: Some(b"wrote o 0\n"),
+        stored: &[(1, &[])],
         notes: b"pipegraph: t.graph:1: \"o\" has no frames, so what it writes to \"o.wav\" \
             is an empty WAV file: it was active in no cycle since it got its format; \
             drain goes on only while an active source has frames left\n",
+        ..RUN
+    },
+];
+
+/// Sinks with samples at the limits of 16 bits, with samples beside them, with samples that another
+/// line stored, and one that has no format.
+const CLIPPED: &'static [Noted] = &[
+    Noted {
+        script: Some(b"sink o o.wav\n"),
+        stored: &[(1, &[32767, -32768, 32766, -32767, 0, -1, 32767])],
+        notes: b"pipegraph: t.graph:1: \"o\" has 3 samples at the limit of 16 bits\n",
+        ..RUN
+    },
+    Noted {
+        script: Some(b"sink o o.wav\nsink p p.wav\nsink q q.wav\n"),
+        told: Some(b"wrote o 1\nwrote p 1\nwrote q 1\n"),
+        stored: &[(1, &[32767]), (2, &[32766, -32767]), (3, &[-32768])],
+        notes: b"pipegraph: t.graph:1: \"o\" has 1 sample at the limit of 16 bits\n\
+            pipegraph: t.graph:3: \"q\" has 1 sample at the limit of 16 bits\n",
+        ..RUN
+    },
+    Noted {
+        command: "groups t.graph",
+        script: Some(b"sink o o.wav\nsource o o.wav\nmeter m\nsink p o.wav\n"),
+        told: Some(b"wrote o 2\nunused p\npeak m 32768\n"),
+        stored: &[(2, &[32767]), (1, &[32767, 32767]), (3, &[32767]), (4, &[32767])],
+        notes: b"pipegraph: t.graph:1: \"o.wav\" is a source's file too: \
+            it was read first, and written after that\n\
+            pipegraph: t.graph:1: \"o\" has 2 samples at the limit of 16 bits\n\
+            pipegraph: t.graph:4: \"p\" had no format at the end, \
+            so it does not write \"o.wav\", which another sink writes\n",
+        ..RUN
+    },
+    Noted {
+        command: "check t.graph t.txt",
+        script: Some(b"sink o o.wav\n"),
+        told: Some(b"legal\n"),
+        stored: &[(1, &[32767])],
         ..RUN
     },
 ];
@@ -170,12 +216,14 @@ const OTHERS: &'static [Noted] = &[
         told: Some(b"clash 65540\n"),
         notes: b"pipegraph: a.pod and b.pod: no common value under key 65540 \
             (a format's channels)\n",
+        ..RUN
     },
     Noted {
         command: "filter a.pod b.pod c.pod",
         script: None,
         told: Some(b"clash type\n"),
         notes: b"pipegraph: a.pod and b.pod: objects of different types\n",
+        ..RUN
     },
     Noted {
         command: "dump a.pod",
@@ -193,7 +241,7 @@ const OTHERS: &'static [Noted] = &[
 // What is said of the command of a row.
 fn said_of(alloc: Global, row: Noted) -> Result<Text, Memory> {
     let words = words_of(alloc, row.command)?;
-    let found = found_of(alloc, row.script, row.told, What::Nothing)?;
+    let found = found_of(alloc, row.script, row.told, row.stored, What::Nothing)?;
     explain(alloc, &Status::Ok, &found, words.as_slice())
 }
 
@@ -228,6 +276,11 @@ fn sinks_without_a_format_or_of_one_file_have_notes(rt: HostRuntime) {
 #[test]
 fn sinks_and_meters_without_frames_have_notes(rt: HostRuntime) {
     assert_eq!(rt; note_unlike(rt.alloc(), EMPTY), None);
+}
+
+#[test]
+fn sinks_with_samples_at_a_limit_have_notes(rt: HostRuntime) {
+    assert_eq!(rt; note_unlike(rt.alloc(), CLIPPED), None);
 }
 
 #[test]

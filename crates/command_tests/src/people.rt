@@ -505,6 +505,49 @@ const SINKS: &'static [Asked] = &[
     },
 ];
 
+/// Sinks whose samples reach the limits of 16 bits.
+const CLIPPED: &'static [Asked] = &[
+    Asked {
+        script: b"quantum 2\nsource s c.wav\nsink o o.wav\nlink s.out o.in\ncycles 2\n",
+        files: &[("c.wav", Held::Mono(&[32767, -32768, 7]))],
+        code: 0,
+        out: b"link s.out o.in 48000 1 2\nwrote o 4\n",
+        said: b"s.graph:3: \"o\" has 2 samples at the limit of 16 bits",
+        ..RUN
+    },
+    Asked {
+        script: b"quantum 2\nsource s c.wav\nsink o o.wav\nlink s.out o.in\ncycles 2\n",
+        files: &[("c.wav", Held::Mono(&[32766, -32767, -32768]))],
+        code: 0,
+        out: b"link s.out o.in 48000 1 2\nwrote o 4\n",
+        said: b"s.graph:3: \"o\" has 1 sample at the limit of 16 bits",
+        ..RUN
+    },
+    Asked {
+        script: b"quantum 1\nsource s c.wav\nsink o o.wav\nsink p o.wav\nlink s.out o.in\n\
+            link s.out p.in\ncycles 2\n",
+        files: &[("c.wav", Held::Stereo(&[32767, 32767, 0, -32768]))],
+        code: 0,
+        out: b"link s.out o.in 48000 2 2\nlink s.out p.in 48000 2 2\nwrote o 2\nwrote p 2\n",
+        said: b"s.graph:3: \"o.wav\" is written by a later sink too; \
+            a regular file keeps what is written last\n\
+            pipegraph: s.graph:3: \"o\" has 3 samples at the limit of 16 bits\n\
+            pipegraph: s.graph:4: \"p\" has 3 samples at the limit of 16 bits",
+        ..RUN
+    },
+    Asked {
+        line: "groups s.graph",
+        script: b"quantum 4\nsink o s.wav\nsquare q 48000 1 2 20000\ngain g 512\n\
+            source s s.wav\nlink q.out g.in\nlink g.out o.in\ncycles 1\n",
+        code: 0,
+        out: b"link q.out g.in 48000 1 2\nlink g.out o.in 48000 1 2\nwrote o 4\n",
+        said: b"s.graph:2: \"s.wav\" is a source's file too: it was read first, \
+            and written after that\n\
+            pipegraph: s.graph:2: \"o\" has 4 samples at the limit of 16 bits",
+        ..RUN
+    },
+];
+
 /// Files whose names are odd.
 const NAMES: &'static [Asked] = &[
     Asked {
@@ -605,6 +648,7 @@ fn wrong_lines_of_scripts_have_their_sentences(rt: HostRuntime) {
 fn notes_and_odd_names_are_shown(rt: HostRuntime) {
     assert_eq!(rt; first_unlike(&rt, NOTES, b""), None);
     assert_eq!(rt; first_unlike(&rt, SINKS, b""), None);
+    assert_eq!(rt; first_unlike(&rt, CLIPPED, b""), None);
     assert_eq!(rt; first_unlike(&rt, NAMES, b""), None);
 }
 

@@ -14,7 +14,7 @@ const VOX: &'static [u8] = b"gain a 1\non vox\nlink a.out vox.in\nlink vox.out a
 // What is said of a status of these words, where the run read that script.
 fn said_of(alloc: Global, command: &str, status: Status) -> Result<Text, Memory> {
     let words = words_of(alloc, command)?;
-    let found = found_of(alloc, Some(VOX), None, What::Nothing)?;
+    let found = found_of(alloc, Some(VOX), None, &[], What::Nothing)?;
     explain(alloc, &status, &found, words.as_slice())
 }
 

@@ -273,7 +273,7 @@ fn said_of(
         }),
         event,
     };
-    let found = found_of(alloc, script, None, what)?;
+    let found = found_of(alloc, script, None, &[], what)?;
     explain(alloc, &Status::Ok, &found, words.as_slice())
 }
 

@@ -1,6 +1,7 @@
 -- Laws of `specs/LinkNotes.antt`, `specs/SinkNotes.antt` and `specs/Makers.antt`: lines one by one.
 use Rattle.std.proofs.Common.{◌≡◌, ℕ, suc, ◌+◌, ◌-◌, ◌<◌, Bool, false, cond, Some, List, [], ◌∷◌, ◌++◌, take, find, sym, ap, ◌∙◌, arith}
 use Rattle.std.proofs.lemmas.List.{append-nil, append_assoc}
+use Rattle.run_results.specs.declared.work.Work.{Work}
 use Rattle.fault_messages.specs.LinkNotes.{link_part, told_behind, link_notes}
 use Rattle.fault_messages.specs.SinkNotes.{sink_part, sink_notes}
 
@@ -20,22 +21,22 @@ unfolding link_notes
 last_links words n line told text all e =
     more_links words n line told text all [] e ∙ append-nil (text ++ link_part words n line told)
 
-pub more_sinks : (words : List (List ℕ)) (told script : List ℕ) (n : ℕ) (line text : List ℕ)
-    (all lines : List (List ℕ)) → all ≡ line ∷ lines → text ++ sink_notes words told script n all
-    ≡ text ++ sink_part words told script n line lines ++ sink_notes words told script (n + 1) lines
+pub more_sinks : (words : List (List ℕ)) (work : Work) (script : List ℕ) (n : ℕ) (line text : List ℕ)
+    (all lines : List (List ℕ)) → all ≡ line ∷ lines → text ++ sink_notes words work script n all
+    ≡ text ++ sink_part words work script n line lines ++ sink_notes words work script (n + 1) lines
 unfolding sink_notes
-more_sinks words told script n line text all lines e =
-    ap (λ ls. text ++ sink_notes words told script n ls) e
-    ∙ sym (append_assoc text (sink_part words told script n line lines)
-    (sink_notes words told script (n + 1) lines))
+more_sinks words work script n line text all lines e =
+    ap (λ ls. text ++ sink_notes words work script n ls) e
+    ∙ sym (append_assoc text (sink_part words work script n line lines)
+    (sink_notes words work script (n + 1) lines))
 
-pub last_sinks : (words : List (List ℕ)) (told script : List ℕ) (n : ℕ) (line text : List ℕ)
-    (all : List (List ℕ)) → all ≡ line ∷ [] → text ++ sink_notes words told script n all
-    ≡ text ++ sink_part words told script n line []
+pub last_sinks : (words : List (List ℕ)) (work : Work) (script : List ℕ) (n : ℕ) (line text : List ℕ)
+    (all : List (List ℕ)) → all ≡ line ∷ [] → text ++ sink_notes words work script n all
+    ≡ text ++ sink_part words work script n line []
 unfolding sink_notes
-last_sinks words told script n line text all e =
-    more_sinks words told script n line text all [] e
-    ∙ append-nil (text ++ sink_part words told script n line [])
+last_sinks words work script n line text all e =
+    more_sinks words work script n line text all [] e
+    ∙ append-nil (text ++ sink_part words work script n line [])
 
 -- a line that does not pass a test is passed over
 pub skip_line : (p : List ℕ → Bool) (n k : ℕ) (line : List ℕ) (all lines : List (List ℕ)) → k < n

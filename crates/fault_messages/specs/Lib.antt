@@ -1,5 +1,6 @@
 pub mod ByteFaults
 pub mod CauseWords
+pub mod ClippedSinks
 pub mod CommandForms
 pub mod CycleRoom
 pub mod EmptySinks
@@ -29,6 +30,7 @@ pub mod ScriptMessages
 pub mod ScriptWords
 pub mod SinkFiles
 pub mod SinkNotes
+pub mod SinkWaves
 pub mod SuchLines
 pub mod UnknownNames
 pub mod Usages

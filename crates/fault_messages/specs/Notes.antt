@@ -11,10 +11,10 @@ use Rattle.fault_messages.specs.SinkNotes.{sink_notes}
 use Rattle.fault_messages.specs.ReportedLines.{first_line}
 
 -- of a run: its links, then its sinks and meters
-abbrev pub run_notes : List (List ℕ) → Option (List ℕ) → List ℕ → List ℕ
-run_notes words None told = []
-run_notes words (Some script) told = link_notes words 1 (lines_of script) told
-    ++ sink_notes words told script 1 (lines_of script)
+abbrev pub run_notes : List (List ℕ) → Option (List ℕ) → Work → List ℕ
+run_notes words None work = []
+run_notes words (Some script) work = link_notes words 1 (lines_of script) work.text
+    ++ sink_notes words work script 1 (lines_of script)
 
 -- of a check: a line of the trace, and the line that is no event
 unfoldable pub trace_head : List ℕ → List ℕ → List ℕ
@@ -43,16 +43,16 @@ filter_note words ws =
     if bytes_eq (word ws 0) (codes "clash")
     then pair_head (word words 1) (word words 2) ++ (clash_text (word ws 1) ++ codes "\n") else []
 
--- THE NOTES, by what was put
-unfoldable pub notes_told : List (List ℕ) → Option (List ℕ) → List ℕ → List ℕ
-notes_told words script told =
+-- THE NOTES, by what was stored and put
+unfoldable pub work_notes : List (List ℕ) → Option (List ℕ) → Work → List ℕ
+work_notes words script work =
     if bytes_eq (word words 0) (codes "run") || bytes_eq (word words 0) (codes "groups")
-    then run_notes words script told
+    then run_notes words script work
     else (if bytes_eq (word words 0) (codes "check")
-    then check_note words (words_of (first_line told))
+    then check_note words (words_of (first_line work.text))
     else (if bytes_eq (word words 0) (codes "filter")
-    then filter_note words (words_of (first_line told)) else []))
+    then filter_note words (words_of (first_line work.text)) else []))
 
 abbrev pub notes : List (List ℕ) → Option (List ℕ) → Option Work → List ℕ
 notes words script None = []
-notes words script (Some work) = notes_told words script work.text
+notes words script (Some work) = work_notes words script work

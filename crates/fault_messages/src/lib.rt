@@ -6,6 +6,7 @@
 
 mod byte_faults;
 mod cause_words;
+mod clipped_sinks;
 mod command_forms;
 mod cycle_room;
 mod empty_sinks;
@@ -36,6 +37,7 @@ mod script_messages;
 mod sentences;
 mod sink_files;
 mod sink_notes;
+mod sink_waves;
 mod such_lines;
 mod unknown_names;
 mod usages;

@@ -2,7 +2,7 @@
 ghost use Rattle.std.specs.Prelude.{◌≡◌, ◌++◌, map, string_bytes, option_copied, OnOk};
 ghost use Rattle.graph_script.specs.Lexical.{words_of};
 ghost use Rattle.fault_messages.specs.Notes.{run_notes, trace_head, trace_note, check_note, pair_head, clash_text, filter_note};
-ghost use Rattle.fault_messages.specs.Notes.{notes_told, notes};
+ghost use Rattle.fault_messages.specs.Notes.{work_notes, notes};
 
 use crate::key_names::put_key_clash;
 use crate::lines::word_of;
@@ -19,16 +19,16 @@ fn put_run_notes(
     text: &mut Text,
     words: &[String],
     script: Option<&[u8]>,
-    told: &[u8],
+    work: &Work,
 ) -> Result<(), Memory>
     ensures { OnOk result (text.new ≡ text.old
-        ++ run_notes (map string_bytes words.now) (option_copied script.entry) told.now) }
+        ++ run_notes (map string_bytes words.now) (option_copied script.entry) work.now) }
 {
     match script {
         None => Ok(()),
         Some(script) => {
-            put_link_notes(text, words, script, told)?;
-            put_sink_notes(text, words, script, told)
+            put_link_notes(text, words, script, work.text.as_slice())?;
+            put_sink_notes(text, words, script, work)
         }
     }
 }
@@ -104,24 +104,24 @@ fn put_filter_note(text: &mut Text, words: &[String], line: &[u8]) -> Result<(),
     text.extend(b"\n")
 }
 
-// Of any command, by the text that it put.
-#[tactic(auto, unfolding(crate::specs::Notes::notes_told))]
-fn put_notes_told(
+// Of any command, by what it stored and put.
+#[tactic(auto, unfolding(crate::specs::Notes::work_notes))]
+fn put_work_notes(
     text: &mut Text,
     words: &[String],
     script: Option<&[u8]>,
-    told: &[u8],
+    work: &Work,
 ) -> Result<(), Memory>
     ensures { OnOk result (text.new ≡ text.old
-        ++ notes_told (map string_bytes words.now) (option_copied script.entry) told.now) }
+        ++ work_notes (map string_bytes words.now) (option_copied script.entry) work.now) }
 {
     let name = word_at(words, 0);
     if name == b"run".as_slice() || name == b"groups".as_slice() {
-        put_run_notes(text, words, script, told)
+        put_run_notes(text, words, script, work)
     } else if name == b"check".as_slice() {
-        put_check_note(text, words, first_line(told))
+        put_check_note(text, words, first_line(work.text.as_slice()))
     } else if name == b"filter".as_slice() {
-        put_filter_note(text, words, first_line(told))
+        put_filter_note(text, words, first_line(work.text.as_slice()))
     } else {
         Ok(())
     }
@@ -140,6 +140,6 @@ pub fn put_notes(
 {
     match work {
         None => Ok(()),
-        Some(work) => put_notes_told(text, words, script, work.text.as_slice()),
+        Some(work) => put_work_notes(text, words, script, work),
     }
 }

@@ -1,16 +1,20 @@
-//! Sinks and meters that got no format or no frames, and the files of sinks, in words.
-ghost use Rattle.std.specs.Prelude.{◌≡◌, ◌++◌, [], map, string_bytes, OnOk};
+//! Sinks and meters that got no format or no frames, the files of sinks, and samples at a limit, in
+//! words.
+ghost use Rattle.std.specs.Prelude.{◌≡◌, ◌++◌, [], map, string_bytes, option_copied, OnOk};
 ghost use Rattle.std.specs.Option.{option_map_or};
 ghost use Rattle.graph_script.specs.Lexical.{lines_of, words_of};
 ghost use Rattle.fault_messages.specs.SinkNotes.{is_meter, unused_sink, unused_other, unused_said, unused_meter};
-ghost use Rattle.fault_messages.specs.SinkNotes.{used_notes, sink_note, meter_note, sink_part, sink_notes};
+ghost use Rattle.fault_messages.specs.SinkNotes.{wave_notes, used_notes, sink_note, meter_note, sink_part, sink_notes};
 
+use crate::clipped_sinks::put_clipped_note;
 use crate::empty_sinks::{put_empty_note, put_still_note};
 use crate::lines::word_of;
 use crate::putting::{put_behind, put_note_head, put_quoted_pair, put_two_quoted};
 use crate::reported_lines::is_unused;
 use crate::sink_files::{is_sink, is_written_in, put_later_note, put_source_note};
+use crate::sink_waves::samples_at;
 use pw_lists::{Memory, Text, next_piece};
+use run_results::Work;
 
 fn is_meter(line: &[u8]) -> bool
     ensures { result ≡ is_meter (words_of line.now) }
@@ -63,45 +67,65 @@ fn put_unused_meter(text: &mut Text, name: &[u8]) -> Result<(), Memory>
     put_behind(text, name, b" had no format at the end, so it has no peak")
 }
 
+// The notes on the line of a sink with a format, by its samples.
+fn put_wave_notes(
+    text: &mut Text,
+    words: &[String],
+    samples: Option<&[i16]>,
+    script: &[u8],
+    number: u32,
+    line: &[u8],
+) -> Result<(), Memory>
+    ensures { OnOk result (text.new ≡ text.old
+        ++ wave_notes (map string_bytes words.now) (option_copied samples.entry) script.now number
+        (words_of line.now)) }
+{
+    put_empty_note(text, words, samples, script, number, line)?;
+    put_clipped_note(text, words, samples, number, word_of(line, 1))
+}
+
 // The notes on the line of a sink with a format, with the lines after it.
 fn put_used_notes(
     text: &mut Text,
     words: &[String],
-    told: &[u8],
+    work: &Work,
     script: &[u8],
     number: u32,
     line: &[u8],
     later: Option<&[u8]>,
 ) -> Result<(), Memory>
     ensures { OnOk result (text.new ≡ text.old
-        ++ used_notes (map string_bytes words.now) told.now script.now number (words_of line.now)
+        ++ used_notes (map string_bytes words.now) work.now script.now number (words_of line.now)
         (option_map_or (λ lines. lines_of lines.now) later.entry [])) }
 {
-    put_later_note(text, words, told, number, word_of(line, 2), later)?;
-    put_source_note(text, words, script, number, word_of(line, 2))?;
-    put_empty_note(text, words, told, script, number, line)
+    let (told, file) = (work.text.as_slice(), word_of(line, 2));
+    put_later_note(text, words, told, number, file, later)?;
+    put_source_note(text, words, script, number, file)?;
+    let samples = samples_at(work.stores.as_slice(), number);
+    put_wave_notes(text, words, samples, script, number, line)
 }
 
 // The notes on the line of a sink, with the lines after it.
 fn put_sink_note(
     text: &mut Text,
     words: &[String],
-    told: &[u8],
+    work: &Work,
     script: &[u8],
     number: u32,
     line: &[u8],
     later: Option<&[u8]>,
 ) -> Result<(), Memory>
     ensures { OnOk result (text.new ≡ text.old
-        ++ sink_note (map string_bytes words.now) told.now script.now number (words_of line.now)
+        ++ sink_note (map string_bytes words.now) work.now script.now number (words_of line.now)
         (option_map_or (λ lines. lines_of lines.now) later.entry [])) }
 {
+    let told = work.text.as_slice();
     if is_unused(told, word_of(line, 1)) {
         put_note_head(text, words, number)?;
         put_unused_said(text, told, script, line)?;
         return text.extend(b"\n");
     }
-    put_used_notes(text, words, told, script, number, line, later)
+    put_used_notes(text, words, work, script, number, line, later)
 }
 
 // The note on the line of a meter.
@@ -130,43 +154,44 @@ fn put_meter_note(
 fn put_sink_part(
     text: &mut Text,
     words: &[String],
-    told: &[u8],
+    work: &Work,
     script: &[u8],
     number: u32,
     line: &[u8],
     later: Option<&[u8]>,
 ) -> Result<(), Memory>
     ensures { OnOk result (text.new ≡ text.old
-        ++ sink_part (map string_bytes words.now) told.now script.now number line.now
+        ++ sink_part (map string_bytes words.now) work.now script.now number line.now
         (option_map_or (λ lines. lines_of lines.now) later.entry [])) }
 {
     if is_sink(line) {
-        put_sink_note(text, words, told, script, number, line, later)
+        put_sink_note(text, words, work, script, number, line, later)
     } else if is_meter(line) {
-        put_meter_note(text, words, told, script, number, line)
+        put_meter_note(text, words, work.text.as_slice(), script, number, line)
     } else {
         Ok(())
     }
 }
 
 /// Which sinks and meters of a script had no format at the end or got no frames, which sinks wrote
-/// what a later one overwrote, and which wrote a source's file: a note for each, by the text of the
-/// run. Cost: for each sink and meter one look at each byte of the script and of the text, and
-/// for each other sink of the same file another at the text.
+/// a file that a later one writes too or a source reads, and which have samples at a limit of 16
+/// bits: a note for each, by what the run stored and put. Cost: for each sink and meter one look at
+/// each byte of the script and of the text and at each sample of the sink, and for each other sink
+/// of the same file another at the text.
 pub fn put_sink_notes(
     text: &mut Text,
     words: &[String],
     script: &[u8],
-    told: &[u8],
+    work: &Work,
 ) -> Result<(), Memory>
     ensures { OnOk result (text.new ≡ text.old
-        ++ sink_notes (map string_bytes words.now) told.now script.now 1 (lines_of script.now)) }
+        ++ sink_notes (map string_bytes words.now) work.now script.now 1 (lines_of script.now)) }
 {
     let mut rest = script;
     let mut number: u32 = 1;
     loop {
         let (line, after) = next_piece(rest, b'\n');
-        put_sink_part(text, words, told, script, number, line, after)?;
+        put_sink_part(text, words, work, script, number, line, after)?;
         match after {
             None => return Ok(()),
             Some(more) => rest = more,

@@ -1,0 +1,57 @@
+//! The samples that a sink stored, and how many of them are at a limit.
+ghost use Rattle.std.specs.Prelude.{◌≡◌, option_copied};
+ghost use Rattle.fault_messages.specs.SinkWaves.{samples_in, samples_at, has_no_frames, is_at_limit, at_limit};
+
+use run_results::{Content, Store};
+
+// The samples of what was stored, where it is a wave.
+fn samples_in(content: &Content) -> Option<&[i16]>
+    ensures { option_copied result ≡ samples_in content.now }
+{
+    match content {
+        Content::Bytes(_bytes) => None,
+        Content::Wave(wav) => Some(wav.samples.as_slice()),
+    }
+}
+
+/// The samples that the sink of the line of this number stored.
+pub fn samples_at(stores: &[Store], number: u32) -> Option<&[i16]>
+    ensures { option_copied result ≡ samples_at stores.now number }
+{
+    let mut rest = stores;
+    while let [store, more @ ..] = rest {
+        if store.place == number {
+            return samples_in(&store.content);
+        }
+        rest = more;
+    }
+    None
+}
+
+/// Whether a sink stored a wave without frames.
+pub fn has_no_frames(samples: Option<&[i16]>) -> bool
+    ensures { result ≡ has_no_frames (option_copied samples.entry) }
+{
+    match samples {
+        None => false,
+        Some(samples) => samples.is_empty(),
+    }
+}
+
+// Whether a sample is at a limit of 16 bits.
+fn is_at_limit(sample: i16) -> bool
+    ensures { result ≡ is_at_limit sample }
+{
+    i16::MAX <= sample || sample <= i16::MIN
+}
+
+/// How many samples are at a limit of 16 bits. Cost: one look at each.
+pub fn at_limit(samples: &[i16]) -> u64
+    ensures { result ≡ at_limit samples.now }
+{
+    let mut count: u64 = 0;
+    for sample in samples {
+        count += u64::from(is_at_limit(*sample));
+    }
+    count
+}
