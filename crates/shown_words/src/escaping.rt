@@ -1,0 +1,147 @@
+//! How a word is shown.
+ghost use Rattle.std.specs.Prelude.{◌≡◌, ◌<◌, ◌≤◌, ◌++◌, take, length, slice_index_or, OnOk};
+ghost use Rattle.shown_words.specs.Escaping.{is_control, is_control_pair, is_hidden, hex_digit, in_hex, shown, first_of, shown_after};
+ghost use Rattle.shown_words.specs.Escaping.{is_inner, cut_place, escaped};
+
+use pw_lists::{Memory, Text};
+
+/// The most bytes of a word that are shown.
+const SHOWN_LIMIT: usize = 200;
+
+// Whether ASCII does not print the byte.
+fn is_control(b: u8) -> bool
+    ensures { result ≡ is_control b }
+{
+    b < 32 || b == 127
+}
+
+// Whether the two bytes are a control character from U+0080 to U+009F.
+fn is_control_pair(b: u8, c: u8) -> bool
+    ensures { result ≡ is_control_pair b c }
+{
+    b == 0xC2 && (0x80 <= c && c <= 0x9F)
+}
+
+// Whether a byte, with those before and after it, is shown by its number.
+fn is_hidden(before: u8, b: u8, after: u8) -> bool
+    ensures { result ≡ is_hidden before b after }
+{
+    is_control(b) || is_control_pair(b, after) || is_control_pair(before, b)
+}
+
+// A digit of base 16.
+fn hex_digit(n: u8) -> u8
+    requires { n < 16 }
+    ensures { result ≡ hex_digit n }
+{
+    if n < 10 { n + 48 } else { n + 87 }
+}
+
+fn put_hex(text: &mut Text, b: u8) -> Result<(), Memory>
+    ensures { OnOk result (text.new ≡ text.old ++ in_hex b) }
+{
+    text.extend([b'\\', b'x', hex_digit(b / 16), hex_digit(b % 16)].as_slice())
+}
+
+#[tactic(auto, unfolding(crate::specs::Escaping::shown))]
+fn put_shown(text: &mut Text, before: u8, b: u8, after: u8) -> Result<(), Memory>
+    ensures { OnOk result (text.new ≡ text.old ++ shown before b after) }
+{
+    if is_hidden(before, b, after) {
+        put_hex(text, b)
+    } else if b == b'\\' {
+        text.extend(b"\\\\")
+    } else {
+        text.extend([b].as_slice())
+    }
+}
+
+// The first byte; 0 where there is none.
+fn first_of(bytes: &[u8]) -> u8
+    ensures { result ≡ first_of bytes.now }
+{
+    match bytes {
+        [] => 0,
+        [b, ..] => *b,
+    }
+}
+
+// All bytes of a word.
+#[tactic(auto, unfolding(crate::specs::Escaping::shown_after))]
+fn put_whole(text: &mut Text, word: &[u8]) -> Result<(), Memory>
+    ensures { OnOk result (text.new ≡ text.old ++ shown_after 0 word.now) }
+{
+    let mut rest = word;
+    let mut before = 0;
+    while let [b, more @ ..] = rest {
+        put_shown(text, before, *b, first_of(more))?;
+        before = *b;
+        rest = more;
+    }
+    Ok(())
+}
+
+// The byte at a place; 0 where there is none.
+fn byte_at(word: &[u8], place: usize) -> u8
+    ensures { result ≡ slice_index_or word.now place 0 }
+{
+    match word.get(place) {
+        None => 0,
+        Some(b) => *b,
+    }
+}
+
+// Whether the byte at a place is not the first of its character.
+fn is_inner(word: &[u8], place: usize) -> bool
+    ensures { result ≡ is_inner word.now place }
+{
+    let b = byte_at(word, place);
+    0x80 <= b && b < 0xC0
+}
+
+// Where a long word is cut.
+#[tactic(auto, unfolding(crate::specs::Escaping::cut_place))]
+fn cut_place(word: &[u8]) -> usize
+    ensures place { result ≡ cut_place word.now }
+    ensures within { result ≤ 200 }
+{
+    if !is_inner(word, 200) {
+        200
+    } else if !is_inner(word, 199) {
+        199
+    } else if !is_inner(word, 198) {
+        198
+    } else {
+        197
+    }
+}
+
+// The first characters of a word of at least 200 bytes.
+fn first_part(word: &[u8]) -> &[u8]
+    requires { 200 ≤ length word.now }
+    ensures { result.now ≡ take (cut_place word.now) word.now }
+{
+    let (part, _rest) = word.split_at(cut_place(word));
+    part
+}
+
+// A part of a word, with words after it.
+fn put_part(text: &mut Text, part: &[u8], behind: &[u8]) -> Result<(), Memory>
+    ensures { OnOk result (text.new ≡ text.old ++ (shown_after 0 part.now ++ behind.now)) }
+{
+    put_whole(text, part)?;
+    text.extend(behind)
+}
+
+/// A word, with its control characters as `\x` and two digits for each byte, and its backslashes
+/// twice; of a word of more than 200 bytes the first characters, and two dots.
+#[tactic(auto, unfolding(crate::specs::Escaping::escaped))]
+pub fn put_escaped(text: &mut Text, word: &[u8]) -> Result<(), Memory>
+    ensures { OnOk result (text.new ≡ text.old ++ escaped word.now) }
+{
+    if word.len() <= SHOWN_LIMIT {
+        put_whole(text, word)
+    } else {
+        put_part(text, first_part(word), b"..")
+    }
+}
