@@ -9,8 +9,7 @@ SYNOPSIS = """usage: pipegraph run SCRIPT [--loops N] [--ticks N] [--trace] [--s
        pipegraph soak NUMBER
        pipegraph groups SCRIPT
 """
-UNWRITTEN = ("the file cannot be written, as where there is no such folder, it is a folder, "
-             "it may not be written, or no room is left")
+UNWRITTEN = "the file cannot be written: there is no such folder"
 
 
 def told(place, words, **how):
@@ -27,7 +26,9 @@ def sentences(place):
     place.file("pod.graph", "gain g 1\noffer g in vox.wav\n")
     place.file("vox.wav", b"RIFX" + bytes(40))
     place.file("fine.graph", "cycles 1\n")
-    place.file("store.graph", "square s 48000 1 4 9\nsink o no/o.wav\nlink s.out o.in\ncycles 1\n")
+    for name, sink in [("store", "no/o.wav"), ("full", "/dev/full"), ("folder", "/tmp")]:
+        place.file(f"{name}.graph",
+                   f"square s 48000 1 4 9\nsink o {sink}\nlink s.out o.in\ncycles 1\n")
     for words, status, line, sentence in [
             (["run", "take.graph"], 2, "script 3 7\n", 'take.graph:3: no node is called "vox"'),
             (["run", "pair.graph", "--loops", "2"], 2, "script 2 7\n",
@@ -39,11 +40,17 @@ def sentences(place):
              "file words are paths from the working directory"),
             (["run", "none.graph"], 5, "absent 0\n", "none.graph: there is no such file"),
             (["run", "."], 6, "read 0\n",
-             ".: the file cannot be read, as where it is a folder or may not be read"),
+             ".: the file cannot be read: it is a folder"),
             (["run", "pod.graph"], 4, "pod 2 6 1481001298\n",
              "pod.graph:2: vox.wav: a POD of more than 1048576 bytes: 1481001298"),
             (["run", "store.graph"], 7, "write 2\n",
              f"store.graph:2: no/o.wav: {UNWRITTEN}"),
+            (["run", "full.graph"], 7, "write 2\n",
+             "full.graph:2: /dev/full: the file cannot be written: no room is left"),
+            (["run", "folder.graph"], 7, "write 2\n",
+             "folder.graph:2: /tmp: the file cannot be written: it is a folder"),
+            (["dump", "vox.wav/a"], 6, "read 1\n",
+             "vox.wav/a: the file cannot be read: there is no such folder"),
             (["dump", "vox.wav"], 4, "pod 1 6 1481001298\n",
              "vox.wav: a POD of more than 1048576 bytes: 1481001298"),
             (["check", "fine.graph", "none"], 5, "absent 4294967295\n",

@@ -174,7 +174,12 @@ const CLIPPED: &'static [Noted] = &[
         command: "groups t.graph",
         script: Some(b"sink o o.wav\nsource o o.wav\nmeter m\nsink p o.wav\n"),
         told: Some(b"wrote o 2\nunused p\npeak m 32768\n"),
-        stored: &[(2, &[32767]), (1, &[32767, 32767]), (3, &[32767]), (4, &[32767])],
+        stored: &[
+            (2, &[32767]),
+            (1, &[32767, 32767]),
+            (3, &[32767]),
+            (4, &[32767]),
+        ],
         notes: b"pipegraph: t.graph:1: \"o.wav\" is a source's file too: \
             it was read first, and written after that\n\
             pipegraph: t.graph:1: \"o\" has 2 samples at the limit of 16 bits\n\
@@ -242,7 +247,7 @@ const OTHERS: &'static [Noted] = &[
 fn said_of(alloc: Global, row: Noted) -> Result<Text, Memory> {
     let words = words_of(alloc, row.command)?;
     let found = found_of(alloc, row.script, row.told, row.stored, What::Nothing)?;
-    explain(alloc, &Status::Ok, &found, words.as_slice())
+    explain(alloc, &Status::Ok, &found, None, words.as_slice())
 }
 
 // Whether the notes of a row are as wanted.

@@ -74,8 +74,7 @@ const ROWS: &'static [Told] = &[
         },
         code: 7,
         out: b"write 4\n",
-        errors: b"pipegraph: s.graph:4: o.wav: the file cannot be written, as where there is no \
-            such folder, it is a folder, it may not be written, or no room is left\n",
+        errors: b"pipegraph: s.graph:4: o.wav: the file cannot be written\n",
         next_load: 3,
         ..REFUSED
     },

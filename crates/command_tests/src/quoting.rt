@@ -15,7 +15,7 @@ const VOX: &'static [u8] = b"gain a 1\non vox\nlink a.out vox.in\nlink vox.out a
 fn said_of(alloc: Global, command: &str, status: Status) -> Result<Text, Memory> {
     let words = words_of(alloc, command)?;
     let found = found_of(alloc, Some(VOX), None, &[], What::Nothing)?;
-    explain(alloc, &status, &found, words.as_slice())
+    explain(alloc, &status, &found, None, words.as_slice())
 }
 
 // Whether this is said of it.

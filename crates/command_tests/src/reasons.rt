@@ -274,16 +274,11 @@ fn said_of(
         event,
     };
     let found = found_of(alloc, script, None, &[], what)?;
-    explain(alloc, &Status::Ok, &found, words.as_slice())
+    explain(alloc, &Status::Ok, &found, None, words.as_slice())
 }
 
 /// A script whose bytes may be at hand, an event, a node for which its node waits, and what is said.
-type Named = (
-    Option<&'static [u8]>,
-    Option<Event>,
-    u32,
-    &'static [u8],
-);
+type Named = (Option<&'static [u8]>, Option<Event>, u32, &'static [u8]);
 
 // Whether what is said is as wanted.
 fn is_named(alloc: Global, named: Named) -> bool {
@@ -319,7 +314,10 @@ const NODES: &'static [Named] = &[
     ),
     (
         None,
-        Some(Event::Tick { cycle: 7, late: 9_223_372_036_854_775_809 }),
+        Some(Event::Tick {
+            cycle: 7,
+            late: 9_223_372_036_854_775_809,
+        }),
         0,
         b"pipegraph: t.txt:12: tick 7 node 0 dummy: its node waits for node 0, \
             which has not finished in cycle 7\n",

@@ -6,6 +6,7 @@ use Rattle.run_results.specs.declared.found.What.{What}
 use Rattle.run_results.specs.declared.found.What.TheVariants.{Nothing, Check}
 use Rattle.run_results.specs.declared.status.Status.{Status}
 use Rattle.run_results.specs.declared.status.Status.TheVariants as S
+use Rattle.system_files.specs.declared.why.FileWhy.{FileWhy}
 use Rattle.fault_messages.specs.Places.{Words, is_line, line_at}
 use Rattle.fault_messages.specs.Message.{message_of}
 use Rattle.fault_messages.specs.Notes.{notes}
@@ -46,8 +47,9 @@ abbrev pub noted : Status → Found → Words → List ℕ
 noted S.Ok found words = noted_by found.what found words
 noted _ found words = []
 
--- THE MESSAGE of a status, by what the run found and by the words of the command line
-unfoldable pub explained : Status → Found → Words → List ℕ
-explained status found words =
-    message_of status words (line_named (place_of status) words found.script)
+-- THE MESSAGE of a status, by what the run found, by why the system refused a file, where it did and
+-- that is known, and by the words of the command line
+unfoldable pub explained : Status → Found → Option FileWhy → Words → List ℕ
+explained status found why words =
+    message_of status why words (line_named (place_of status) words found.script)
     (bytes_in found.script) ++ noted status found words

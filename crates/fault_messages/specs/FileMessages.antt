@@ -1,12 +1,14 @@
 -- What is wrong with a file, in words. Source: WAV faults are those of RIFF WAVE PCM; the
 -- sentences and the limits are this project's own.
-use Rattle.std.specs.Prelude.{ℕ, ◌==◌, Bool, true, false, if◌then◌else◌, List, ◌++◌, codes, Option, Some, None}
+use Rattle.std.specs.Prelude.{ℕ, ◌==◌, Bool, true, false, if◌then◌else◌, List, [], ◌++◌, codes, Option, Some, None}
 use Rattle.std.specs.List.{list_any}
 use Rattle.graph_script.specs.Lexical.{words_of}
 use Rattle.pw_lists.specs.declared.limit.Which.{Which}
 use Rattle.pw_lists.specs.declared.limit.Which.TheVariants as W
 use Rattle.wav_files.specs.declared.fault.WavFault.{WavFault}
 use Rattle.wav_files.specs.declared.fault.WavFault.TheVariants as F
+use Rattle.system_files.specs.declared.why.FileWhy.{FileWhy}
+use Rattle.system_files.specs.declared.why.FileWhy.TheVariants as Y
 use Rattle.fault_messages.specs.Places.{begins, file_word, file_part}
 
 abbrev pub wav_said : WavFault → List ℕ
@@ -33,13 +35,19 @@ abbrev pub absent_said : Option (List ℕ) → List ℕ
 absent_said None = codes "there is no such file"
 absent_said (Some line) = absent_text (file_word (words_of line))
 
--- that the system does not read or write it; its own reason is not at hand
-abbrev pub read_said : List ℕ
-read_said = codes "the file cannot be read, as where it is a folder or may not be read"
+-- that the system does not read or write it, and its reason, where that is one of these
+abbrev pub why_said : Option FileWhy → List ℕ
+why_said None = []
+why_said (Some Y.NoFolder) = codes ": there is no such folder"
+why_said (Some Y.Folder) = codes ": it is a folder"
+why_said (Some Y.Permission) = codes ": the system does not permit it"
+why_said (Some Y.Full) = codes ": no room is left"
 
-abbrev pub write_said : List ℕ
-write_said = codes "the file cannot be written, as where there is no such folder, it is a folder,"
-    ++ codes " it may not be written, or no room is left"
+abbrev pub read_said : Option FileWhy → List ℕ
+read_said why = codes "the file cannot be read" ++ why_said why
+
+abbrev pub write_said : Option FileWhy → List ℕ
+write_said why = codes "the file cannot be written" ++ why_said why
 
 abbrev pub limit_said : Which → List ℕ
 limit_said W.ScriptBytes = codes "more than 1048576 bytes"

@@ -2,6 +2,7 @@
 use Rattle.std.specs.Prelude.{ℕ, ◌==◌, ◌||◌, Bool, false, bytes_eq, if◌then◌else◌, List, [], ◌++◌, codes, decimal, Option, Some, None}
 use Rattle.run_results.specs.declared.status.Status.{Status}
 use Rattle.run_results.specs.declared.status.Status.TheVariants as S
+use Rattle.system_files.specs.declared.why.FileWhy.{FileWhy}
 use Rattle.fault_messages.specs.CycleRoom.{room_part}
 use Rattle.fault_messages.specs.Places.{Words, word, place_text, file_part, lines_before}
 use Rattle.fault_messages.specs.ScriptMessages.{script_said}
@@ -23,23 +24,25 @@ synopsis = codes "usage: pipegraph run SCRIPT [--loops N] [--ticks N] [--trace] 
 abbrev pub at_place : List (List ℕ) → ℕ → List ℕ → List ℕ
 at_place words place what = place_text words place ++ (codes ": " ++ what)
 
-abbrev pub sentence : Status → List (List ℕ) → Option (List ℕ) → List ℕ → List ℕ
-sentence S.Ok words line script = []
-sentence (S.Usage i) words line script = usage_text words i
-sentence (S.Script n why) words line script =
-    at_place words n (script_said why line (lines_before script n))
-sentence (S.Wav place why) words line script = at_place words place (file_part line ++ wav_said why)
-sentence (S.Pod place why) words line script = at_place words place (file_part line ++ pod_said why)
-sentence (S.Absent place) words line script =
+abbrev pub sentence : Status → Option FileWhy → Words → Option (List ℕ) → List ℕ → List ℕ
+sentence S.Ok why words line script = []
+sentence (S.Usage i) why words line script = usage_text words i
+sentence (S.Script n fault) why words line script =
+    at_place words n (script_said fault line (lines_before script n))
+sentence (S.Wav place fault) why words line script =
+    at_place words place (file_part line ++ wav_said fault)
+sentence (S.Pod place fault) why words line script =
+    at_place words place (file_part line ++ pod_said fault)
+sentence (S.Absent place) why words line script =
     at_place words place (file_part line ++ absent_said line)
-sentence (S.ReadFault place) words line script =
-    at_place words place (file_part line ++ read_said)
-sentence (S.WriteFault place) words line script =
+sentence (S.ReadFault place) why words line script =
+    at_place words place (file_part line ++ read_said why)
+sentence (S.WriteFault place) why words line script =
     if place == 0 then codes "standard output cannot be written"
-    else at_place words place (file_part line ++ write_said)
-sentence (S.Limit place which) words line script = at_place words place
+    else at_place words place (file_part line ++ write_said why)
+sentence (S.Limit place which) why words line script = at_place words place
     (limit_text which line ++ room_part words which line (lines_before script place))
-sentence S.Memory words line script = codes "no memory was left"
+sentence S.Memory why words line script = codes "no memory was left"
 
 -- where the words ask for help, or there are none: what the commands do
 abbrev pub is_help_word : List ℕ → Bool
@@ -60,12 +63,12 @@ after S.Ok = []
 after (S.Usage i) = codes "\n" ++ synopsis
 after _ = codes "\n"
 
--- THE MESSAGE of a status, by the words, by the line of the script that is at fault, where it is at
--- hand, and by the script; nothing where all was done
-unfoldable pub message_of : Status → Words → Option (List ℕ) → List ℕ → List ℕ
-message_of status words line script =
+-- THE MESSAGE of a status, by why the system refused a file, by the words, by the line of the
+-- script that is at fault, where these are at hand, and by the script; nothing where all was done
+unfoldable pub message_of : Status → Option FileWhy → Words → Option (List ℕ) → List ℕ → List ℕ
+message_of status why words line script =
     if asks_help status words then help
-    else before status ++ (sentence status words line script ++ after status)
+    else before status ++ (sentence status why words line script ++ after status)
 
 -- the message of words that could not be read: the first that is no text, counted from 1; or none
 -- was found, and memory was short

@@ -57,12 +57,7 @@ fn put_late(text: &mut Text, script: Option<&[u8]>, late: u64) -> Result<(), Mem
 }
 
 // The word of a tick, a cycle and the late nodes.
-fn put_tick(
-    text: &mut Text,
-    cycle: u32,
-    script: Option<&[u8]>,
-    late: u64,
-) -> Result<(), Memory>
+fn put_tick(text: &mut Text, cycle: u32, script: Option<&[u8]>, late: u64) -> Result<(), Memory>
     ensures { OnOk result
         (text.new ≡ text.old ++ event_words (option_copied script.entry) (E.Tick cycle late)) }
 {

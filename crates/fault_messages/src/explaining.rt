@@ -12,6 +12,7 @@ use crate::sentences::message;
 use pw_lists::{Memory, Text};
 use run_results::{Found, Status, What};
 use std::alloc::Global;
+use system_files::FileWhy;
 
 // The place that a status names.
 fn place_of(status: &Status) -> Option<u32>
@@ -81,12 +82,7 @@ fn bytes_in(script: Option<&[u8]>) -> &[u8]
 }
 
 // The notes, by the reason of a check where one was found.
-fn put_noted_by(
-    text: &mut Text,
-    what: What,
-    found: &Found,
-    words: &[String],
-) -> Result<(), Memory>
+fn put_noted_by(text: &mut Text, what: What, found: &Found, words: &[String]) -> Result<(), Memory>
     ensures { OnOk result
         (text.new ≡ text.old ++ noted_by what found.now (map string_bytes words.now)) }
 {
@@ -118,8 +114,8 @@ fn put_noted(
     }
 }
 
-/// The message of a status in words, by what the run found and by the words of the command line
-/// without the program's name. Where the status names a line of a script, the message has the names
+/// The message of a status in words, by what the run found, by why the system refused a file, where
+/// it did and that is known, and by the words of the command line without the program's name. Where the status names a line of a script, the message has the names
 /// of that line. Where all was done, it has a note for each link that was not made, for each sink
 /// and meter without a format, for each sink without frames, for each meter of a script that makes
 /// no cycles, for each sink whose file a later one writes or a source reads, and for what a check
@@ -129,14 +125,15 @@ pub fn explain(
     alloc: Global,
     status: &Status,
     found: &Found,
+    why: Option<FileWhy>,
     words: &[String],
 ) -> Result<Text, Memory>
     ensures { IfOk result (λ text. text
-        ≡ explained status.now found.now (map string_bytes words.now)) }
+        ≡ explained status.now found.now why (map string_bytes words.now)) }
 {
     let script = loaded(&found.script);
     let line = line_named(place_of(status), words, script);
-    let mut text = message(alloc, status, words, line, bytes_in(script))?;
+    let mut text = message(alloc, status, why, words, line, bytes_in(script))?;
     put_noted(&mut text, status, found, words)?;
     Ok(text)
 }

@@ -1,7 +1,8 @@
 //! What is wrong with a file, in words.
 ghost use Rattle.std.specs.Prelude.{◌≡◌, ◌==◌, ◌++◌, option_copied, OnOk};
 ghost use Rattle.std.specs.List.{list_any};
-ghost use Rattle.fault_messages.specs.FileMessages.{wav_said, absent_text, absent_said, read_said, write_said};
+ghost use Rattle.fault_messages.specs.FileMessages.{wav_said, absent_text, absent_said};
+ghost use Rattle.fault_messages.specs.FileMessages.{why_said, read_said, write_said};
 ghost use Rattle.fault_messages.specs.FileMessages.{limit_said, is_of_file, limit_text};
 
 use crate::lines::begins;
@@ -61,19 +62,33 @@ pub fn absent_said(line: Option<&[u8]>) -> &'static [u8]
     }
 }
 
-/// That a file is not read.
-pub fn read_said() -> &'static [u8]
-    ensures { result.now ≡ read_said }
+// Why the system refused it, where that is known.
+fn why_said(why: Option<FileWhy>) -> &'static [u8]
+    ensures { result.now ≡ why_said why }
 {
-    b"the file cannot be read, as where it is a folder or may not be read"
+    match why {
+        None => b"",
+        Some(FileWhy::NoFolder) => b": there is no such folder",
+        Some(FileWhy::Folder) => b": it is a folder",
+        Some(FileWhy::Permission) => b": the system does not permit it",
+        Some(FileWhy::Full) => b": no room is left",
+    }
+}
+
+/// That a file is not read.
+pub fn put_read(text: &mut Text, why: Option<FileWhy>) -> Result<(), Memory>
+    ensures { OnOk result (text.new ≡ text.old ++ read_said why) }
+{
+    text.extend(b"the file cannot be read")?;
+    text.extend(why_said(why))
 }
 
 /// That a file is not written.
-pub fn write_said() -> &'static [u8]
-    ensures { result.now ≡ write_said }
+pub fn put_write(text: &mut Text, why: Option<FileWhy>) -> Result<(), Memory>
+    ensures { OnOk result (text.new ≡ text.old ++ write_said why) }
 {
-    b"the file cannot be written, as where there is no such folder, it is a folder, \
-        it may not be written, or no room is left"
+    text.extend(b"the file cannot be written")?;
+    text.extend(why_said(why))
 }
 
 /// What passes a limit.

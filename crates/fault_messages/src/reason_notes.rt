@@ -46,7 +46,13 @@ fn put_cause(
             put_node_said(text, script, event, b" has finished in cycle ", b" already")
         }
         Cause::Ticked => {
-            put_said(text, b"a tick", b" has come in cycle ", cycle_of(event), b" already")
+            put_said(
+                text,
+                b"a tick",
+                b" has come in cycle ",
+                cycle_of(event),
+                b" already",
+            )
         }
         Cause::DriverStarted => put_said(
             text,

@@ -5,7 +5,7 @@ ghost use Rattle.fault_messages.specs.Message.{is_help_word, asks_help};
 ghost use Rattle.fault_messages.specs.Message.{synopsis, at_place, sentence, before, after, message_of, words_message};
 
 use crate::cycle_room::put_room;
-use crate::file_messages::{absent_said, put_limit, read_said, wav_said, write_said};
+use crate::file_messages::{absent_said, put_limit, put_read, put_write, wav_said};
 use crate::help::help;
 use crate::places::{put_file, put_place, word_at};
 use crate::pod_messages::put_pod;
@@ -15,6 +15,7 @@ use crate::usages::put_usage;
 use pw_lists::{Items, Memory, Text};
 use run_results::Status;
 use std::alloc::Global;
+use system_files::FileWhy;
 
 // The end of the sentence, and the words of all commands.
 fn synopsis() -> &'static [u8]
@@ -60,11 +61,12 @@ fn put_colon(text: &mut Text, words: &[String], place: u32) -> Result<(), Memory
 fn put_sentence(
     text: &mut Text,
     status: &Status,
+    why: Option<FileWhy>,
     words: &[String],
     line: Option<&[u8]>,
     script: &[u8],
 ) -> Result<(), Memory>
-    ensures { OnOk result (text.new ≡ text.old ++ sentence status.now
+    ensures { OnOk result (text.new ≡ text.old ++ sentence status.now why
         (map string_bytes words.now) (option_copied line.entry) script.now) }
 {
     match *status {
@@ -80,9 +82,15 @@ fn put_sentence(
             put_pod(text, why)
         }
         Status::Absent { place } => put_file_fault(text, words, place, line, absent_said(line)),
-        Status::ReadFault { place } => put_file_fault(text, words, place, line, read_said()),
+        Status::ReadFault { place } => {
+            put_file_fault(text, words, place, line, b"")?;
+            put_read(text, why)
+        }
         Status::WriteFault { place: 0 } => text.extend(b"standard output cannot be written"),
-        Status::WriteFault { place } => put_file_fault(text, words, place, line, write_said()),
+        Status::WriteFault { place } => {
+            put_file_fault(text, words, place, line, b"")?;
+            put_write(text, why)
+        }
         Status::Limit { place, which } => {
             put_colon(text, words, place)?;
             put_limit(text, which, line)?;
@@ -133,18 +141,20 @@ fn asks_help(status: &Status, words: &[String]) -> bool
     }
 }
 
-/// The message of a status in words, by the words of the command line without the program's name,
-/// by the line of the script that is at fault, where it is at hand, and by the script; what the
-/// commands do, where the words ask for help. Nothing where all was done.
+/// The message of a status in words, by why the system refused a file, where it did and that is
+/// known, by the words of the command line without the program's name, by the line of the script
+/// that is at fault, where it is at hand, and by the script; what the commands do, where the words
+/// ask for help. Nothing where all was done.
 #[tactic(auto, unfolding(crate::specs::Message::message_of))]
 pub fn message(
     alloc: Global,
     status: &Status,
+    why: Option<FileWhy>,
     words: &[String],
     line: Option<&[u8]>,
     script: &[u8],
 ) -> Result<Text, Memory>
-    ensures { IfOk result (λ text. text ≡ message_of status.now (map string_bytes words.now)
+    ensures { IfOk result (λ text. text ≡ message_of status.now why (map string_bytes words.now)
         (option_copied line.entry) script.now) }
 {
     if asks_help(status, words) {
@@ -152,7 +162,7 @@ pub fn message(
     }
     let mut text = Items::new(alloc);
     text.extend(before(status))?;
-    put_sentence(&mut text, status, words, line, script)?;
+    put_sentence(&mut text, status, why, words, line, script)?;
     text.extend(after(status))?;
     Ok(text)
 }
