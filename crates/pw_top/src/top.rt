@@ -188,7 +188,11 @@ pub fn run_words_with<R: Threads + Wait + Sync, F: Files, O: Sink, G: Gate + Syn
         history: Items::new(alloc),
         closed: Items::new(alloc),
     };
-    let mut found = Found::nothing();
+    let mut found = Found {
+        script: None,
+        work: None,
+        what: What::Nothing,
+    };
     let made = prepare_words(
         rt,
         alloc,
