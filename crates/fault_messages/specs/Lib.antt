@@ -4,7 +4,6 @@ pub mod ClippedSinks
 pub mod CommandForms
 pub mod CycleRoom
 pub mod EmptySinks
-pub mod Escaping
 pub mod EventWords
 pub mod Explaining
 pub mod FileMessages

@@ -5,7 +5,7 @@ use Rattle.std.specs.Prelude.{ℕ, ◌-◌, ◌==◌, ◌&&◌, Bool, is_some, L
 use Rattle.pw_lists.specs.Limits.{dummy_node}
 use Rattle.graph_script.specs.Lexical.{lines_of, words_of}
 use Rattle.fault_messages.specs.CommandForms.{node_form}
-use Rattle.fault_messages.specs.Escaping.{escaped}
+use Rattle.shown_words.specs.Escaping.{escaped}
 use Rattle.fault_messages.specs.Places.{word, quoted}
 
 -- a line that makes a node

@@ -5,7 +5,7 @@ use Rattle.std.specs.Prelude.{codes, decimal, bytes_eq, nat_eq, slice_get, slice
 use Rattle.std.specs.List.{starts_with}
 use Rattle.graph_script.specs.Lexical.{lines_of, words_of}
 use Rattle.run_results.specs.Places.{trace_place}
-use Rattle.fault_messages.specs.Escaping.{escaped}
+use Rattle.shown_words.specs.Escaping.{escaped}
 
 -- words of a command line or of a line, or lines of a text
 abbrev pub Words : Type 0

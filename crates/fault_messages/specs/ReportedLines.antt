@@ -2,7 +2,7 @@
 use Rattle.std.specs.Prelude.{ℕ, ◌&&◌, Bool, List, ◌++◌, take, drop, codes, decimal, bytes_eq}
 use Rattle.std.specs.List.{position_or_len, list_any}
 use Rattle.graph_script.specs.Lexical.{is_line_feed, lines_of, words_of}
-use Rattle.fault_messages.specs.Escaping.{escaped}
+use Rattle.shown_words.specs.Escaping.{escaped}
 use Rattle.fault_messages.specs.NameRules.{behind_first}
 use Rattle.fault_messages.specs.Places.{word}
 

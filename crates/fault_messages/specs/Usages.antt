@@ -1,6 +1,6 @@
 -- What is wrong with the words of a command line. Source: the grammar is this project's own.
 use Rattle.std.specs.Prelude.{ℕ, ◌-◌, ◌==◌, List, ◌++◌, codes, length, nat_lt, bytes_eq, Option, Some, None, if◌then◌else◌}
-use Rattle.fault_messages.specs.Escaping.{escaped}
+use Rattle.shown_words.specs.Escaping.{escaped}
 use Rattle.fault_messages.specs.MainWords.{main_meant, option_meant, wanted, is_option, has_both, is_script_path}
 use Rattle.fault_messages.specs.Places.{begins, word, quoted}
 

@@ -10,7 +10,6 @@ mod clipped_sinks;
 mod command_forms;
 mod cycle_room;
 mod empty_sinks;
-mod escaping;
 mod event_words;
 mod explaining;
 mod file_messages;

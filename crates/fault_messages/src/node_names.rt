@@ -4,10 +4,10 @@ ghost use Rattle.fault_messages.specs.NodeNames.{is_maker, node_line, is_line_le
 ghost use Rattle.fault_messages.specs.NodeNames.{name_in, word_in, line_of_node, node_text, node_word};
 
 use crate::command_forms::node_form;
-use crate::escaping::put_escaped;
 use crate::lines::word_of;
 use crate::putting::put_quoted;
 use pw_lists::{Memory, Text, append_decimal, next_piece};
+use shown_words::put_escaped;
 
 /// The number of the built-in driver.
 const DUMMY_NODE: u32 = 63;

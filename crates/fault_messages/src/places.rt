@@ -3,9 +3,9 @@ ghost use Rattle.std.specs.Prelude.{◌≡◌, ◌++◌, map, string_bytes, opti
 ghost use Rattle.fault_messages.specs.Places.{word, reads_script, is_line, script_place, place_text, file_word, file_part};
 ghost use Rattle.graph_script.specs.Lexical.{words_of};
 
-use crate::escaping::put_escaped;
 use crate::lines::word_of;
 use pw_lists::{Memory, Text, append_decimal};
+use shown_words::put_escaped;
 
 /// The place of a trace.
 const TRACE_PLACE: u32 = u32::MAX;

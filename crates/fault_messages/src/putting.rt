@@ -1,12 +1,12 @@
 //! Quoted words and numbers at the end of a text. After `Memory` the text has a part of it.
 ghost use Rattle.std.specs.Prelude.{◌≡◌, ◌++◌, decimal, map, string_bytes, OnOk};
 ghost use Rattle.fault_messages.specs.Places.{word, quoted};
-ghost use Rattle.fault_messages.specs.Escaping.{escaped};
+ghost use Rattle.shown_words.specs.Escaping.{escaped};
 ghost use Rattle.fault_messages.specs.ReportedLines.{note_head};
 
-use crate::escaping::put_escaped;
 use crate::places::word_at;
 use pw_lists::{Memory, Text, append_decimal};
+use shown_words::put_escaped;
 
 /// A word in quotes.
 #[tactic(auto, unfolding(crate::specs::Places::quoted))]
