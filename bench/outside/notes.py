@@ -39,7 +39,7 @@ LINKS = [
       (12, '"g.out" to "g.in" is no link: a node is not linked to itself')]),
     ("link a.out o.in\nmeter m\nsink p p.wav\nsink q o.wav\nlink a.out q.in\n",
      "link a.out o.in 48000 1 2\nlink a.out q.in 48000 1 2\n",
-     [(5, '"o.wav" is written by a later sink too, whose frames stand'),
+     [(5, '"o.wav" is written by a later sink too; a regular file keeps what is written last'),
       (9, '"m" had no format at the end, so it has no peak'),
       (10, '"p" had no format at the end, so it does not write "p.wav"')])]
 
@@ -65,11 +65,16 @@ SINKS = [
     ("quantum 4\nsource s in.wav\nsink o in.wav\nsink p in.wav\nlink s.out p.in\ncycles 1\n",
      "unused o\nwrote p 4\n",
      [(3, '"o" had no format at the end, so it does not write "in.wav", which another sink writes'),
-      (4, '"in.wav" is a source\'s file too, and was overwritten')])]
+      (4, '"in.wav" is a source\'s file too: it was read first, and written after that')]),
+    ("quantum 4\nsquare a 48000 1 2 32767\nsquare b 48000 1 4 32766\nsink o o.wav\nsink p p.wav\ngain g 257\n"
+     "link a.out o.in\nlink b.out g.in\nlink g.out p.in\ncycles 1\n", "wrote o 4\nwrote p 4\n",
+     [(4, '"o" has 2 samples at the limit of 16 bits'), (5, '"p" has 4 samples at the limit of 16 bits')]),
+    ("quantum 2\nsquare a 48000 1 2 32767\nsink o o.wav\nlink a.out o.in\ncycles 1\n", "wrote o 2\n",
+     [(3, '"o" has 1 sample at the limit of 16 bits')])]
 
 
 def sinks(place):
-    """Notes on sinks and meters without frames, and on files of sinks."""
+    """Notes on sinks and meters without frames, on files of sinks, and on samples at a limit."""
     for script, text, notes in SINKS:
         place.file("some.graph", script)
         place.file("in.wav", wav([1, 2, 3]))
@@ -101,26 +106,30 @@ def others(place):
     place.file("fine.graph", "cycles 1\n")
     _, trace, _ = told(place, ["run", "fine.graph", "--trace"])
     events = trace.decode().splitlines()
-    soon = "past the last line, the trace ends too soon"
-    open_cycle = f"cycle 0 has begun and not ended; {soon}"
+    soon = "the trace ends too soon"
+    open_cycle = "cycle 0 has begun and not ended"
     for lines, answer, said in [
             (events, "legal\n", ""),
-            (events[:-1], "illegal 4\n", f"t.txt:4: {open_cycle}"),
-            (events[:1] * 2, "illegal 2\n", f"t.txt:2: {open_cycle}"),
-            ([], "illegal 1\n", f"t.txt:1: only begin 0 can come here; {soon}"),
+            (events[:-1], "illegal 4\n", f"t.txt:4: {soon}: {open_cycle}"),
+            (events[:1], "illegal 2\n",
+             f't.txt:2: {soon}: cycle 0 cannot end before "dummy" has finished'),
+            (events[:1] * 2, "illegal 2\n", f"t.txt:2: begin 0: {open_cycle}"),
+            ([], "illegal 1\n", f"t.txt:1: {soon}: cycle 0 has not begun"),
+            (["begin 1"], "illegal 1\n",
+             "t.txt:1: begin 1: cycle 0 has not begun, so only begin 0 can come here"),
             (events + ["begin 1"], "illegal 5\n",
-             "t.txt:5: no event can come here: the script has no further cycle"),
+             "t.txt:5: begin 1: no event can come here: the script has no further cycle"),
             (["begin 0", "end 0"], "illegal 2\n",
-             f't.txt:2: cycle 0 cannot end before "dummy" has finished; {soon}'),
+             't.txt:2: end 0: cycle 0 cannot end before "dummy" has finished'),
             (["begin 0", "start 0 dummy", "start 0 dummy"], "illegal 3\n",
-             "t.txt:3: its node has started in this cycle already"),
+             't.txt:3: start 0 dummy: "dummy" has started in cycle 0 already'),
             (["begin 0", "finish 0 dummy"], "illegal 2\n",
-             "t.txt:2: its node has not started in this cycle"),
+             't.txt:2: finish 0 dummy: "dummy" has not started in cycle 0'),
             (["begin 0", "tick 0", "tick 0"], "illegal 3\n",
-             "t.txt:3: a tick has come in this cycle already"),
+             "t.txt:3: tick 0: a tick has come in cycle 0 already"),
             (["begin 0", "tick 0 dummy"], "illegal 2\n",
-             't.txt:2: "dummy" cannot be late: '
-             "it is no active follower, or has finished in this cycle"),
+             't.txt:2: tick 0 dummy: "dummy" cannot be late: '
+             "it drives cycle 0, is not active in it, or has finished in it"),
             (events[:1] + ["start"], "line 2\n", "t.txt:2: no event line; "
              "grep -E '^(begin|start|finish|tick|end) ' takes those of a run's text")]:
         place.file("t.txt", "".join(line + "\n" for line in lines))
@@ -141,7 +150,9 @@ def others(place):
                    told(place, ["filter", "a.pod", "b.pod", "o.pod"]))
     place.file("long.graph", START + "link a.out o.in\nlink a.out o.in\ncycles 60000\n")
     status, out, errors = told(place, ["run", "long.graph", "--trace", "--loops", "0"])
-    place.same("a trace of more than 4 MiB", (0, True, b""), (status, len(out) > 4 << 20, errors))
+    said = b'pipegraph: long.graph:9: "a.out" to "o.in" is no link: it is there already\n'
+    place.same("a trace of more than 4 MiB", (0, True, said),
+               (status, len(out) > 4 << 20, errors))
 
 
 def once(place):
