@@ -1,7 +1,7 @@
 -- How a word is shown: control characters as `\x` and two digits for each byte, a backslash twice;
 -- a long word is cut between two characters. Source: UTF-8 is RFC 3629; the form is this project's
 -- own.
-use Rattle.std.specs.Prelude.{ℕ, ◌+◌, ◌==◌, ◌&&◌, ◌||◌, ◌/◌, ◌%◌, Bool, List, [], ◌∷◌, ◌++◌, take, length, codes, nat_lt, nat_le, slice_index_or, if◌then◌else◌}
+use Rattle.std.specs.Prelude.{ℕ, ◌+◌, ◌-◌, ◌==◌, ◌&&◌, ◌||◌, ◌/◌, ◌%◌, Bool, List, [], ◌∷◌, ◌++◌, take, length, codes, nat_lt, nat_le, slice_index_or, not, if◌then◌else◌}
 
 -- a control character of one byte; and of two, which is one from U+0080 to U+009F
 abbrev pub is_control : ℕ → Bool
@@ -36,18 +36,23 @@ unfoldable pub shown_after : ℕ → List ℕ → List ℕ
 shown_after before [] = []
 shown_after before (b ∷ rest) = shown before b (first_of rest) ++ shown_after b rest
 
--- a byte that is not the first of its character; and where a word is cut: after at most 200 bytes,
--- before the first byte of a character, of which each has at most 4
+-- a byte that is not the first of its character; and where a word is cut: after at most so many
+-- bytes, before the first byte of a character, of which each has at most 4
 abbrev pub is_inner : List ℕ → ℕ → Bool
 is_inner w i = nat_le 0x80 (slice_index_or w i 0) && nat_lt (slice_index_or w i 0) 0xC0
 
-unfoldable pub cut_place : List ℕ → ℕ
-cut_place w =
-    if is_inner w 200 then (if is_inner w 199 then (if is_inner w 198 then 197 else 198) else 199)
-    else 200
+unfoldable pub cut_place : ℕ → List ℕ → ℕ
+cut_place most w =
+    if not (is_inner w most) then most
+    else (if not (is_inner w (most - 1)) then most - 1
+    else (if not (is_inner w (most - 2)) then most - 2 else most - 3))
+
+-- a word as it is shown by at most so many of its bytes
+unfoldable pub escaped_within : ℕ → List ℕ → List ℕ
+escaped_within most w =
+    if nat_le (length w) most then shown_after 0 w
+    else shown_after 0 (take (cut_place most w) w) ++ codes ".."
 
 -- A WORD as it is shown
 unfoldable pub escaped : List ℕ → List ℕ
-escaped w =
-    if nat_le (length w) 200 then shown_after 0 w
-    else shown_after 0 (take (cut_place w) w) ++ codes ".."
+escaped w = escaped_within 200 w

@@ -1,7 +1,7 @@
 //! How a word is shown.
 ghost use Rattle.std.specs.Prelude.{◌≡◌, ◌<◌, ◌≤◌, ◌++◌, take, length, slice_index_or, OnOk};
 ghost use Rattle.shown_words.specs.Escaping.{is_control, is_control_pair, is_hidden, hex_digit, in_hex, shown, first_of, shown_after};
-ghost use Rattle.shown_words.specs.Escaping.{is_inner, cut_place, escaped};
+ghost use Rattle.shown_words.specs.Escaping.{is_inner, cut_place, escaped_within, escaped};
 
 use pw_lists::{Memory, Text};
 
@@ -101,27 +101,27 @@ fn is_inner(word: &[u8], place: usize) -> bool
 
 // Where a long word is cut.
 #[tactic(auto, unfolding(crate::specs::Escaping::cut_place))]
-fn cut_place(word: &[u8]) -> usize
-    ensures place { result ≡ cut_place word.now }
-    ensures within { result ≤ 200 }
+fn cut_place(word: &[u8], most: usize) -> usize
+    ensures place { result ≡ cut_place most word.now }
+    ensures within { result ≤ most }
 {
-    if !is_inner(word, 200) {
-        200
-    } else if !is_inner(word, 199) {
-        199
-    } else if !is_inner(word, 198) {
-        198
+    if !is_inner(word, most) {
+        most
+    } else if !is_inner(word, most.saturating_sub(1)) {
+        most.saturating_sub(1)
+    } else if !is_inner(word, most.saturating_sub(2)) {
+        most.saturating_sub(2)
     } else {
-        197
+        most.saturating_sub(3)
     }
 }
 
-// The first characters of a word of at least 200 bytes.
-fn first_part(word: &[u8]) -> &[u8]
-    requires { 200 ≤ length word.now }
-    ensures { result.now ≡ take (cut_place word.now) word.now }
+// The first characters of a word of at least so many bytes.
+fn first_part(word: &[u8], most: usize) -> &[u8]
+    requires { most ≤ length word.now }
+    ensures { result.now ≡ take (cut_place most word.now) word.now }
 {
-    let (part, _rest) = word.split_at(cut_place(word));
+    let (part, _rest) = word.split_at(cut_place(word, most));
     part
 }
 
@@ -134,14 +134,22 @@ fn put_part(text: &mut Text, part: &[u8], behind: &[u8]) -> Result<(), Memory>
 }
 
 /// A word, with its control characters as `\x` and two digits for each byte, and its backslashes
-/// twice; of a word of more than 200 bytes the first characters, and two dots.
+/// twice; of a word of more than `most` bytes the first characters, and two dots.
+#[tactic(auto, unfolding(crate::specs::Escaping::escaped_within))]
+pub fn put_escaped_within(text: &mut Text, word: &[u8], most: usize) -> Result<(), Memory>
+    ensures { OnOk result (text.new ≡ text.old ++ escaped_within most word.now) }
+{
+    if word.len() <= most {
+        put_whole(text, word)
+    } else {
+        put_part(text, first_part(word, most), b"..")
+    }
+}
+
+/// A word as it is shown in every sentence: by at most 200 of its bytes.
 #[tactic(auto, unfolding(crate::specs::Escaping::escaped))]
 pub fn put_escaped(text: &mut Text, word: &[u8]) -> Result<(), Memory>
     ensures { OnOk result (text.new ≡ text.old ++ escaped word.now) }
 {
-    if word.len() <= SHOWN_LIMIT {
-        put_whole(text, word)
-    } else {
-        put_part(text, first_part(word), b"..")
-    }
+    put_escaped_within(text, word, SHOWN_LIMIT)
 }

@@ -1,6 +1,6 @@
 //! Words beside how they are shown, by the bytes of their characters.
 
-use crate::put_escaped;
+use crate::{put_escaped, put_escaped_within};
 use pw_lists::{Items, Memory};
 use std::alloc::Global;
 use std::test::Fail;
@@ -68,6 +68,32 @@ const LONG: [(usize, &[u8], usize, &[u8]); 8] = [
 fn long_words_are_cut_between_characters(rt: HostRuntime) -> Result<(), Fail> {
     for (letters, end, left, after) in LONG {
         assert!(rt; is_cut(rt.alloc(), letters, end, left, after)?);
+    }
+    Ok(())
+}
+
+// Whether a word is shown so by at most so many of its bytes.
+fn is_begun(alloc: Global, word: &[u8], most: usize, shown: &[u8]) -> Result<bool, Memory> {
+    let mut text = Items::new(alloc);
+    put_escaped_within(&mut text, word, most)?;
+    Ok(text.as_slice() == shown)
+}
+
+/// A word, how many of its bytes are shown at most, and how it is shown.
+const BEGUN: [(&[u8], usize, &[u8]); 7] = [
+    (b"abcd", 4, b"abcd"),
+    (b"abcd\\", 4, b"abcd.."),
+    (b"ab\\cd", 4, b"ab\\\\c.."),
+    (b"abc\xc3\xa9", 4, b"abc.."),
+    (b"a\xc2\x85bc", 3, b"a\\xc2\\x85.."),
+    (b"\xe2\x82\xac", 2, b".."),
+    (b"a", 0, b".."),
+];
+
+#[test]
+fn of_a_line_the_beginning_is_shown(rt: HostRuntime) -> Result<(), Fail> {
+    for (word, most, shown) in BEGUN {
+        assert!(rt; is_begun(rt.alloc(), word, most, shown)?);
     }
     Ok(())
 }
