@@ -107,11 +107,15 @@ SAID = {
     "AsyncLate": "async comes before the links of its node"}
 
 # A list of gains, its fault, the line at fault and what is said of it.
+FRAME = ("a frame is a number from 0 to 4294967295, without a leading zero; "
+         "1.5 s at 48000 a second are 72000")
+GAIN = ("a gain is a whole number without +: from -32767 to 32767, in 1/256, so that 128 is 0.5, "
+        "or from -60dB to 42dB")
 LISTS = [
     ("Words", "0 1\n1 2 3\n", 2, "a line has two words, FRAME GAIN, and a comment its own line"),
-    ("Frame", "4294967296 1\n", 1, "a frame is a number from 0 to 4294967295"),
+    ("Frame", "4294967296 1\n", 1, FRAME), ("Frame", "0 1\n1.5s 1\n", 2, FRAME),
     ("FrameFalls", "5 1\n4 1\n", 2, "the frame is below that of the point before it"),
-    ("Gain", "0 32768\n", 1, "a gain is a number from -32767 to 32767, in 1/256, or -60dB to 42dB")]
+    ("Gain", "0 32768\n", 1, GAIN), ("Gain", "0 -6.5dB\n", 1, GAIN), ("Gain", "0 +3dB\n", 1, GAIN)]
 
 # A text that is no dump, the same.
 TEXTS = [
@@ -230,6 +234,12 @@ def lists_and_texts(place):
             for to in ["o", "-"]:
                 refused(place, [command, "bad.text", to], 2, "",
                         f'"bad.text": line {at}: "{shown}": {sentence}', PODS)
+    long = "its POD would be longer than 1048576 bytes"
+    for command, content, said in [
+            ("gains", "0 1\n" * 21846, f"it has more than 21845 points, so {long}"),
+            ("pod", f'bytes "{"00" * 1048577}"\n', long)]:
+        place.file("long.text", content)
+        refused(place, [command, "long.text", "o"], 4, "", f'"long.text": {said}', PODS)
     place.same("nothing is stored", None, place.read("o"))
 
 

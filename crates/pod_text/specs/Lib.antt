@@ -10,7 +10,7 @@ pub mod DumpMaking
 pub mod Delivery
 pub mod Showing
 pub mod UsageText
-pub mod OutputWord
+pub mod LineFaults
 pub mod Sentences
 pub mod Answers
 pub mod Reports

@@ -1,4 +1,4 @@
--- The commands in words. Source: this project's own.
+-- The commands in words, and the version. Source: this project's own.
 use Rattle.std.specs.Prelude.{ℕ, List, ◌++◌, codes}
 
 abbrev pub usage_text : List ℕ
@@ -8,3 +8,8 @@ usage_text = codes "usage: pipegraph-pods gains LIST OUT\n"
     ++ codes "       LIST has lines `FRAME GAIN`; TEXT is what `pipegraph dump` prints;\n"
     ++ codes "       VALUES is A, A|B, MIN..MAX or MIN..MAX/STEP;\n"
     ++ codes "       `-` is standard input or output\n"
+
+-- the version, and where the manual is
+abbrev pub version_said : List ℕ
+version_said = codes "version 0.1; the manual: man pipegraph-pods where it is installed, and "
+    ++ codes "man -l docs/pipegraph-pods.1"

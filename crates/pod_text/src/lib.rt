@@ -11,6 +11,7 @@ mod fault;
 mod format_words;
 mod gain_lines;
 mod gains;
+mod line_faults;
 mod loading;
 mod making;
 mod numbers;

@@ -1,14 +1,15 @@
 //! The sentence of a status, for people.
 ghost use Rattle.std.specs.Prelude.{◌≡◌, ◌++◌, map, string_bytes, codes, OnOk, IfOk};
-ghost use Rattle.pod_text.specs.UsageText.{usage_text};
-ghost use Rattle.pod_text.specs.Sentences.{why_text, dump_why_text, word, at_word, usage_fault};
-ghost use Rattle.pod_text.specs.Sentences.{line_fault, fault_text, after, sentence_of};
+ghost use Rattle.pod_text.specs.UsageText.{usage_text, version_said};
+ghost use Rattle.pod_text.specs.Sentences.{word, at_word, asks_version, word_fault};
+ghost use Rattle.pod_text.specs.Sentences.{usage_fault, too_long_said, line_fault};
+ghost use Rattle.pod_text.specs.Sentences.{fault_text, after, sentence_of};
 
-use crate::fault::ListWhy;
+use crate::line_faults::{dump_why_text, why_text};
 use crate::showing::{put_line, put_shown};
+use crate::source::Source;
 use crate::status::Status;
-use crate::words::output_place;
-use dump_reading::DumpWhy;
+use crate::words::source_of;
 use pw_lists::{Items, Memory, Text, append_decimal};
 use std::alloc::Global;
 
@@ -24,31 +25,12 @@ pub(crate) fn usage_text() -> &'static [u8]
        \x20      `-` is standard input or output\n"
 }
 
-// What is wrong with a line.
-fn why_text(why: ListWhy) -> &'static [u8]
-    ensures { result.now ≡ why_text why }
+// The version, and where the manual is.
+fn version_said() -> &'static [u8]
+    ensures { result.now ≡ version_said }
 {
-    match why {
-        ListWhy::Words => b"a line has two words, FRAME GAIN, and a comment its own line",
-        ListWhy::Frame => b"a frame is a number from 0 to 4294967295",
-        ListWhy::FrameFalls => b"the frame is below that of the point before it",
-        ListWhy::Gain => b"a gain is a number from -32767 to 32767, in 1/256, or -60dB to 42dB",
-    }
-}
-
-// What is wrong with a line of a text.
-fn dump_why_text(why: DumpWhy) -> &'static [u8]
-    ensures { result.now ≡ dump_why_text why }
-{
-    match why {
-        DumpWhy::Deep => b"a value stands more than 16 deep",
-        DumpWhy::Missing => b"the text ends where a line should stand",
-        DumpWhy::Unended => b"the line is not ended by a line feed",
-        DumpWhy::Indent => b"a line is indented by two spaces for each level",
-        DumpWhy::Words => b"these are no words that a dump has here",
-        DumpWhy::Child => b"an array or a choice holds values of its child type",
-        DumpWhy::More => b"the text goes on behind its value",
-    }
+    b"version 0.1; the manual: man pipegraph-pods where it is installed, and \
+      man -l docs/pipegraph-pods.1"
 }
 
 // The word of a command line with this index; nothing where there is none.
@@ -71,16 +53,47 @@ fn put_at(text: &mut Text, words: &[String], place: u32, what: &[u8]) -> Result<
     text.extend(what)
 }
 
-// A word at fault, or one that is missing, and the commands.
-fn put_usage(text: &mut Text, words: &[String], index: u32) -> Result<(), Memory>
+// Whether the version is asked for, which is no command.
+fn asks_version(words: &[String], index: u32) -> bool
+    ensures { result ≡ asks_version (map string_bytes words.now) index }
+{
+    index == 0 && word_at(words, 0) == b"--version".as_slice()
+}
+
+// A word at fault, or one that is missing.
+fn put_word_fault(text: &mut Text, words: &[String], index: u32) -> Result<(), Memory>
     ensures { OnOk result (text.new ≡ text.old
-        ++ usage_fault (map string_bytes words.now) index) }
+        ++ word_fault (map string_bytes words.now) index) }
 {
     if (index as usize) < words.len() {
         text.extend(b"this word is wrong here: ")?;
         put_shown(text, word_at(words, index))
     } else {
         text.extend(b"a word is missing")
+    }
+}
+
+// A word at fault, or the version where it is asked for.
+fn put_usage(text: &mut Text, words: &[String], index: u32) -> Result<(), Memory>
+    ensures { OnOk result (text.new ≡ text.old
+        ++ usage_fault (map string_bytes words.now) index) }
+{
+    if asks_version(words, index) {
+        text.extend(version_said())
+    } else {
+        put_word_fault(text, words, index)
+    }
+}
+
+// More than a POD may have, by what was read.
+fn too_long_said(source: Option<Source>) -> &'static [u8]
+    ensures { result.now ≡ too_long_said source }
+{
+    match source {
+        Some(Source::Gains) => {
+            b"it has more than 21845 points, so its POD would be longer than 1048576 bytes"
+        }
+        _ => b"its POD would be longer than 1048576 bytes",
     }
 }
 
@@ -117,16 +130,14 @@ fn put_fault(text: &mut Text, status: &Status, words: &[String], line: &[u8]) ->
         Status::Text { line: number, why } => {
             put_line_fault(text, words, number, dump_why_text(why), line)
         }
-        Status::TooLong => put_at(
-            text,
-            words,
-            1,
-            b"the POD would be longer than 1048576 bytes, or 21845 points",
-        ),
+        Status::TooLong => {
+            let read = source_of(word_at(words, 0));
+            put_at(text, words, 1, too_long_said(read))
+        }
         Status::Absent { place } => put_at(text, words, place, b"there is no such file"),
         Status::ReadFault { place } => put_at(text, words, place, b"it cannot be read"),
         Status::WriteFault { place } => put_at(text, words, place, b"it cannot be written"),
-        Status::PutFault => put_at(text, words, output_place(words), b"it cannot be written"),
+        Status::PutFault => text.extend(b"standard output cannot be written"),
         Status::Limit { place } => put_at(text, words, place, b"it is longer than 33554432 bytes"),
         Status::Memory => text.extend(b"no memory was left"),
     }

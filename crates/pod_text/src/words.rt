@@ -2,7 +2,6 @@
 ghost use Rattle.std.specs.Prelude.{◌≡◌, map, string_bytes, Ok, IfOk};
 ghost use Rattle.pod_text.specs.Words.{is_dash, is_file_word, made_to, made_behind, source_of, other_of, request_of};
 ghost use Rattle.pod_text.specs.Words.{HasSoundFormat};
-ghost use Rattle.pod_text.specs.OutputWord.{output_place};
 ghost use Rattle.command_frame.specs.Words.{IsAsked};
 ghost use Rattle.pod_text.specs.declared.words.Request.TheVariants as R;
 
@@ -111,8 +110,8 @@ fn read_made_words(alloc: Global, source: Source, rest: &[String]) -> Result<Req
     }
 }
 
-// What is made of a file by the command of this name.
-fn source_of(name: &[u8]) -> Option<Source>
+/// What is made of a file by the command of this name.
+pub(crate) fn source_of(name: &[u8]) -> Option<Source>
     ensures { result ≡ source_of name.now }
 {
     if name == b"gains".as_slice() {
@@ -135,19 +134,6 @@ fn read_others(alloc: Global, name: &[u8], rest: &[String]) -> Result<Request, M
         Ok(Request::Help)
     } else {
         Err(Misread::Word(0))
-    }
-}
-
-/// The index of the word by which bytes go to standard output.
-pub(crate) fn output_place(words: &[String]) -> u32
-    ensures { result ≡ output_place (map string_bytes words.now) }
-{
-    match words {
-        [] => 0,
-        [name, ..] => match source_of(name.as_bytes()) {
-            Some(_source) => 2,
-            None => u32::from(name.as_bytes() == b"format".as_slice()),
-        },
     }
 }
 

@@ -90,9 +90,11 @@ fn at(line: u64, why: ListWhy) -> Status {
 #[test]
 fn a_list_is_refused_at_its_first_line_at_fault(rt: HostRuntime) -> Result<(), Fail> {
     let words = "a line has two words, FRAME GAIN, and a comment its own line";
-    let frame = "a frame is a number from 0 to 4294967295";
+    let frame = "a frame is a number from 0 to 4294967295, without a leading zero; \
+        1.5 s at 48000 a second are 72000";
     let falls = "the frame is below that of the point before it";
-    let gain = "a gain is a number from -32767 to 32767, in 1/256, or -60dB to 42dB";
+    let gain = "a gain is a whole number without +: from -32767 to 32767, in 1/256, \
+        so that 128 is 0.5, or from -60dB to 42dB";
     let table = [
         ("2", 1, ListWhy::Words, "2", words),
         ("2 128 # half", 1, ListWhy::Words, "2 128 # half", words),
@@ -108,7 +110,12 @@ fn a_list_is_refused_at_its_first_line_at_fault(rt: HostRuntime) -> Result<(), F
         ("2 -61dB", 1, ListWhy::Gain, "2 -61dB", gain),
         ("2 dB", 1, ListWhy::Gain, "2 dB", gain),
         ("2 6db", 1, ListWhy::Gain, "2 6db", gain),
+        ("2 -6.5dB", 1, ListWhy::Gain, "2 -6.5dB", gain),
+        ("2 +3dB", 1, ListWhy::Gain, "2 +3dB", gain),
+        ("2 0.5", 1, ListWhy::Gain, "2 0.5", gain),
+        ("1.5s 1", 1, ListWhy::Frame, "1.5s 1", frame),
         ("2 \u{7f}\u{1}", 1, ListWhy::Gain, "2 \\x7f\\x01", gain),
+        ("2 \u{85}\\", 1, ListWhy::Gain, "2 \\xc2\\x85\\\\", gain),
     ];
     for (list, line, why, shown, said) in table {
         let sentence = format!(in rt.alloc();
@@ -123,6 +130,42 @@ fn a_list_is_refused_at_its_first_line_at_fault(rt: HostRuntime) -> Result<(), F
             b"",
             &sentence,
         )?;
+    }
+    Ok(())
+}
+
+// A line that is no point: so many letters, and then this.
+fn long_line(alloc: Global, letters: usize, end: &str) -> Result<Text, Memory> {
+    let mut line = text(alloc, "")?;
+    line.extend_filled(letters, b'x')?;
+    line.extend(end.as_bytes())?;
+    Ok(line)
+}
+
+#[test]
+fn of_a_long_line_the_first_characters_are_shown(rt: HostRuntime) -> Result<(), Fail> {
+    let alloc = rt.alloc();
+    let words = "a line has two words, FRAME GAIN, and a comment its own line";
+    let rows = [
+        (60, "", 60, ""),
+        (58, "\u{e9}", 58, "\u{e9}"),
+        (59, "\u{e9}", 59, ".."),
+        (57, "\u{1f3b5}", 57, ".."),
+        (61, "", 60, ".."),
+    ];
+    for (letters, end, left, after) in rows {
+        let list = long_line(alloc, letters, end)?;
+        let mut sentence = text(alloc, "pipegraph-pods: \"s\": line 1: \"")?;
+        sentence.extend(long_line(alloc, left, after)?.as_slice())?;
+        sentence.extend(b"\": ")?;
+        sentence.extend(words.as_bytes())?;
+        sentence.extend(b"\n")?;
+        let mut files = SureFiles::new(alloc)?;
+        files.add_file(alloc, &text(alloc, "s")?, list.as_slice())?;
+        let mut out = SureSink::new(alloc)?;
+        let asked = words_of(alloc, "gains s o")?;
+        let report = make_pod(alloc, asked.as_slice(), &mut files, &mut out);
+        assert!(rt; report.sentence?.as_slice() == sentence.as_slice(), "{end}");
     }
     Ok(())
 }
@@ -154,12 +197,22 @@ const USAGE: &str = "usage: pipegraph-pods gains LIST OUT\n\
     \x20      VALUES is A, A|B, MIN..MAX or MIN..MAX/STEP;\n\
     \x20      `-` is standard input or output\n";
 
+const VERSION: &str = "version 0.1; the manual: man pipegraph-pods where it is installed, and \
+    man -l docs/pipegraph-pods.1";
+
 #[test]
 fn words_are_refused_at_the_first_at_fault(rt: HostRuntime) -> Result<(), Fail> {
     let table = [
         ("", 0, "a word is missing"),
         ("gain s o", 0, "this word is wrong here: \"gain\""),
         ("gains", 1, "a word is missing"),
+        ("--version", 0, VERSION),
+        ("--version x", 0, VERSION),
+        (
+            "gains --version o",
+            1,
+            "this word is wrong here: \"--version\"",
+        ),
         ("gains --help o", 1, "this word is wrong here: \"--help\""),
         ("gains s", 2, "a word is missing"),
         ("gains s -o", 2, "this word is wrong here: \"-o\""),
@@ -167,6 +220,11 @@ fn words_are_refused_at_the_first_at_fault(rt: HostRuntime) -> Result<(), Fail> 
         ("pod", 1, "a word is missing"),
         ("pod s", 2, "a word is missing"),
         ("pod s o t", 3, "this word is wrong here: \"t\""),
+        (
+            "pod s o \u{1b}[1m\u{9b}1m\\n",
+            3,
+            "this word is wrong here: \"\\x1b[1m\\xc2\\x9b1m\\\\n\"",
+        ),
     ];
     for (line, word, said) in table {
         let sentence = format!(in rt.alloc(); "pipegraph-pods: {said}\n{USAGE}")?;
@@ -389,7 +447,7 @@ fn a_text_is_refused_at_its_first_line_at_fault(rt: HostRuntime) -> Result<(), F
             "string \"\\x61\"\n",
             1,
             DumpWhy::Words,
-            "string \"\\x61\"",
+            "string \"\\\\x61\"",
             words,
         ),
         ("string \"a\n", 1, DumpWhy::Words, "string \"a", words),
@@ -505,26 +563,26 @@ fn a_failed_store_and_a_failed_put_are_two_statuses(rt: HostRuntime) -> Result<(
             Status::WriteFault { place: 2 },
             Some(half),
             b"".as_slice(),
-            "o",
+            "\"o\": it",
         ),
-        ("gains s -", Status::PutFault, None, half, "-"),
+        ("gains s -", Status::PutFault, None, half, "standard output"),
         (
             "format - rate 8000..96000/4000 channels 2 mandatory channels",
             Status::PutFault,
             None,
             b"\x50\0\0".as_slice(),
-            "-",
+            "standard output",
         ),
         (
             "--help",
             Status::PutFault,
             None,
             b"usa".as_slice(),
-            "--help",
+            "standard output",
         ),
     ];
-    for (line, status, stored, put, word) in rows {
-        let said = format!(in rt.alloc(); "pipegraph-pods: \"{word}\": it cannot be written\n")?;
+    for (line, status, stored, put, what) in rows {
+        let said = format!(in rt.alloc(); "pipegraph-pods: {what} cannot be written\n")?;
         fails(&rt, line, status, stored, put, &said)?;
     }
     Ok(())
