@@ -1,6 +1,8 @@
 """The sentences for people."""
 import os
 
+from asking import MAIN, PICTURES, PODS
+
 SYNOPSIS = """usage: pipegraph run SCRIPT [--loops N] [--ticks N] [--trace] [--steal]
        pipegraph dump FILE
        pipegraph filter A B OUT
@@ -10,6 +12,12 @@ SYNOPSIS = """usage: pipegraph run SCRIPT [--loops N] [--ticks N] [--trace] [--s
        pipegraph groups SCRIPT
 """
 UNWRITTEN = "the file cannot be written: there is no such folder"
+
+# A word, and how every program shows it.
+ODD = [("a\x1b[1m\x7f", "a\\x1b[1m\\x7f"), ("a\x85b\x9f", "a\\xc2\\x85b\\xc2\\x9f"),
+       ("\xa0é", "\xa0é"), ("a\\x41", "a\\\\x41"), ("a" * 200, "a" * 200),
+       ("a" * 199 + "é", "a" * 199 + ".."), ("é" * 127, "é" * 100 + ".."),
+       ("a" * 197 + "🎵", "a" * 197 + "..")]
 
 
 def told(place, words, **how):
@@ -93,3 +101,18 @@ def sentences(place):
     with open("/dev/full", "wb") as full:
         place.same("a full output", (7, b"", b"pipegraph: standard output cannot be written\n"),
                    told(place, ["run", "fine.graph", "--trace"], to=full))
+        place.same("a full output for help",
+                   (7, b"", b"pipegraph-pods: standard output cannot be written\n"),
+                   told(place, ["--help"], of=PODS, to=full))
+    odd_words(place)
+
+
+def odd_words(place):
+    """Words of others are shown in the same way by all three programs."""
+    for word, shown in ODD:
+        for of, words, sentence in [
+                (MAIN, ["dump", word], f"{shown}: there is no such file"),
+                (PODS, ["gains", word, "o"], f'"{shown}": there is no such file'),
+                (PICTURES, ["wave", word], f"cannot read {shown}: there is no such file")]:
+            place.same(f"{of} of {word!r}", (5, f"{of}: {sentence}\n".encode()),
+                       told(place, words, of=of)[::2])

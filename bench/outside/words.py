@@ -62,7 +62,12 @@ def helps(place):
     for words in [[], ["-h"], ["--help"], ["--version"]]:
         answer = place.expect(f"pipegraph {words}", words, 1, "usage 0\n")
         place.same(f"pipegraph {words}: help", True, answer.errors.startswith(b"pipegraph 0.1: "))
-        place.expect(f"pipegraph-pictures {words}", words, 1, "usage 0\n", of=PICTURES)
+        answer = place.expect(f"pipegraph-pictures {words}", words, 1, "usage 0\n", of=PICTURES)
+        place.same(f"pipegraph-pictures {words}: the version", True,
+                   b"\nversion 0.1; the manual: man pipegraph-pictures" in answer.errors)
+    answer = place.expect("the version of pipegraph-pods", ["--version"], 1, of=PODS)
+    place.same("pipegraph-pods --version", True,
+               answer.errors.startswith(b"pipegraph-pods: version 0.1; the manual: man "))
     for words in [["-h"], ["--help"]]:
         answer = place.ask(*words, of=PODS)
         place.same(f"pipegraph-pods {words}", (0, True, b""),

@@ -1,10 +1,11 @@
 -- Sentences for people: why no picture was printed, by the words of the command line and by the
 -- status. They are printed on standard error.
 -- Source: this project's own; the faults of a WAV file are those of RIFF WAVE PCM.
-use Rattle.std.specs.Prelude.{ℕ, ◌==◌, ◌||◌, nat_lt, if◌then◌else◌, List, [], ◌∷◌, ◌++◌, map, codes, slice_index_or}
+use Rattle.std.specs.Prelude.{ℕ, ◌==◌, if◌then◌else◌, List, [], ◌∷◌, ◌++◌, codes, slice_index_or}
 use Rattle.pw_lists.specs.declared.limit.Which.{Which}
 use Rattle.pw_lists.specs.declared.limit.Which.TheVariants as W
 use Rattle.graph_script.specs.declared.fault.ScriptWhy.{ScriptWhy}
+use Rattle.shown_words.specs.Escaping.{escaped}
 use Rattle.wav_files.specs.declared.fault.WavFault.{WavFault}
 use Rattle.wav_files.specs.declared.fault.WavFault.TheVariants as F
 use Rattle.graph_pictures.specs.declared.status.Status.{Status}
@@ -13,17 +14,13 @@ use Rattle.graph_pictures.specs.Template.{filled}
 use Rattle.graph_pictures.specs.Reading.{trace_place}
 use Rattle.graph_pictures.specs.ScriptSentences.{why_said}
 
--- a byte as a terminal may show it: what ASCII does not print is a question mark
-abbrev pub shown_byte : ℕ → ℕ
-shown_byte b = if nat_lt b 32 || b == 127 then 63 else b
-
 -- the file at a place: the third word is the trace's, the second any other's
 abbrev pub file_word : List (List ℕ) → ℕ → List ℕ
 file_word words place = if place == trace_place then slice_index_or words 2 []
     else slice_index_or words 1 []
 
 abbrev pub file_said : List (List ℕ) → ℕ → List ℕ
-file_said words place = map shown_byte (file_word words place)
+file_said words place = escaped (file_word words place)
 
 -- what is wrong with a WAV file
 abbrev pub wav_said : WavFault → List ℕ
@@ -43,9 +40,12 @@ abbrev pub bytes_said : Which → List ℕ
 bytes_said W.ScriptBytes = codes ": it has more than 1048576 bytes\n"
 bytes_said which = codes ": it has more than 268435456 bytes\n"
 
+-- the forms of the commands, the version, and where the manual is
 abbrev pub usage_said : List ℕ
 usage_said = codes "usage: pipegraph-pictures graph SCRIPT [TRACE] | " ++ codes
-    "timeline SCRIPT TRACE [FROM TO] | wave FILE\n"
+    "timeline SCRIPT TRACE [FROM TO] | wave FILE\n" ++ codes
+    "version 0.1; the manual: man pipegraph-pictures where it is installed, and " ++ codes
+    "man -l docs/pipegraph-pictures.1\n"
 
 -- a sentence about a file
 abbrev pub of_file : List ℕ → List (List ℕ) → ℕ → List ℕ → List ℕ
@@ -59,7 +59,7 @@ of_script words line why = of_file [] words 0 (filled (codes ":%: ") (line ∷ [
 -- a trace that has not the cycle of the word at an index
 abbrev pub of_cycle : List (List ℕ) → ℕ → List ℕ
 of_cycle words word = of_file [] words trace_place (codes ": it has no event of cycle ")
-    ++ map shown_byte (slice_index_or words word []) ++ codes "\n"
+    ++ escaped (slice_index_or words word []) ++ codes "\n"
 
 -- THE SENTENCE of a status; there is none where all was done
 unfoldable pub explained : List (List ℕ) → Status → List ℕ

@@ -1,25 +1,20 @@
 //! Sentences for people.
 ghost use Rattle.std.specs.Prelude.{◌≡◌, ◌++◌, ◌∷◌, [], map, string_bytes, slice_index_or, IfOk, OnOk};
 ghost use Rattle.graph_pictures.specs.Template.{filled};
-ghost use Rattle.graph_pictures.specs.Sentences.{shown_byte, file_word, wav_said, bytes_said, usage_said, of_file, of_script, of_cycle, explained};
+ghost use Rattle.graph_pictures.specs.Sentences.{file_word, wav_said, bytes_said, usage_said, of_file, of_script, of_cycle, explained};
+ghost use Rattle.shown_words.specs.Escaping.{escaped};
 
 use crate::script_sentences::why_said;
 use crate::status::Status;
 use crate::template::fill;
 use graph_script::ScriptWhy;
 use pw_lists::{Items, Memory, Text, Which};
+use shown_words::put_escaped;
 use std::alloc::Global;
 use wav_files::WavFault;
 
 /// The place of a trace.
 const TRACE_PLACE: u32 = u32::MAX;
-
-// A byte as a terminal may show it.
-fn shown_byte(byte: u8) -> u8
-    ensures { result ≡ shown_byte byte }
-{
-    if byte < 32 || byte == 127 { b'?' } else { byte }
-}
 
 // The word at an index: nothing where there is none.
 fn word_at(words: &[String], index: usize) -> &[u8]
@@ -40,16 +35,6 @@ fn file_word(words: &[String], place: u32) -> &[u8]
     } else {
         word_at(words, 1)
     }
-}
-
-// Bytes as a terminal may show them.
-fn put_shown(text: &mut Text, bytes: &[u8]) -> Result<(), Memory>
-    ensures { OnOk result (text.new ≡ text.old ++ map shown_byte bytes.now) }
-{
-    for byte in bytes {
-        text.push(shown_byte(*byte))?;
-    }
-    Ok(())
 }
 
 // What is wrong with a WAV file.
@@ -94,7 +79,7 @@ fn put_of_file(
 {
     text.extend(b"pipegraph-pictures: ")?;
     text.extend(front)?;
-    put_shown(text, file_word(words, place))?;
+    put_escaped(text, file_word(words, place))?;
     text.extend(said)?;
     Ok(())
 }
@@ -132,12 +117,12 @@ fn put_of_script(
     Ok(())
 }
 
-// The word at an index, as a terminal may show it.
+// The word at an index, as it is shown.
 fn put_word(text: &mut Text, words: &[String], index: u32) -> Result<(), Memory>
     ensures { OnOk result (text.new ≡ text.old
-        ++ map shown_byte (slice_index_or (map string_bytes words.now) index [])) }
+        ++ escaped (slice_index_or (map string_bytes words.now) index [])) }
 {
-    put_shown(text, word_at(words, index as usize))
+    put_escaped(text, word_at(words, index as usize))
 }
 
 // A sentence about a cycle that a trace has not, which the word at an index names.
@@ -157,13 +142,14 @@ fn put_of_cycle(text: &mut Text, words: &[String], word: u32) -> Result<(), Memo
     Ok(())
 }
 
-// The forms of the commands.
-#[tactic(auto, using(crate::proofs::Grown::texts))]
-fn put_usage(text: &mut Text) -> Result<(), Memory>
-    ensures { OnOk result (text.new ≡ text.old ++ usage_said) }
+// The forms of the commands, the version, and where the manual is.
+fn usage_said() -> &'static [u8]
+    ensures { result.now ≡ usage_said }
 {
-    text.extend(b"usage: pipegraph-pictures graph SCRIPT [TRACE] | ")?;
-    text.extend(b"timeline SCRIPT TRACE [FROM TO] | wave FILE\n")
+    b"usage: pipegraph-pictures graph SCRIPT [TRACE] | \
+      timeline SCRIPT TRACE [FROM TO] | wave FILE\n\
+      version 0.1; the manual: man pipegraph-pictures where it is installed, and \
+      man -l docs/pipegraph-pictures.1\n"
 }
 
 // The sentence of a status.
@@ -179,7 +165,7 @@ fn put_sentence(
 {
     match status {
         Status::Ok => Ok(()),
-        Status::Usage { .. } => put_usage(text),
+        Status::Usage { .. } => text.extend(usage_said()),
         Status::Script { line, why } => put_of_script(alloc, text, words, u64::from(line), why),
         Status::Line { number } => put_of_line(
             alloc,

@@ -399,7 +399,9 @@ fn a_refusal_has_a_sentence_for_people(rt: HostRuntime) -> Result<(), Fail> {
         (
             "draw s",
             Status::Usage { word: 0 },
-            "usage: pipegraph-pictures graph SCRIPT [TRACE] | timeline SCRIPT TRACE [FROM TO] | wave FILE\n",
+            "usage: pipegraph-pictures graph SCRIPT [TRACE] | timeline SCRIPT TRACE [FROM TO] | wave FILE\n\
+                version 0.1; the manual: man pipegraph-pictures where it is installed, and \
+                man -l docs/pipegraph-pictures.1\n",
         ),
         (
             "graph s",
@@ -432,7 +434,12 @@ fn a_refusal_has_a_sentence_for_people(rt: HostRuntime) -> Result<(), Fail> {
         (
             "graph \u{1b}[1m",
             Status::ReadFault { place: 0 },
-            "pipegraph-pictures: cannot read ?[1m: the system refuses it\n",
+            "pipegraph-pictures: cannot read \\x1b[1m: the system refuses it\n",
+        ),
+        (
+            "graph \u{e9}\\\u{9b}1m",
+            Status::Absent { place: 0 },
+            "pipegraph-pictures: cannot read \u{e9}\\\\\\xc2\\x9b1m: there is no such file\n",
         ),
         (
             "graph s",
