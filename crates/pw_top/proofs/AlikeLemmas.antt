@@ -22,7 +22,7 @@ use Rattle.pw_top.specs.Groups.{PartsFile}
 use Rattle.pw_top.specs.GroupsWork.{GroupsPlan, IsGroupsAnswer}
 use Rattle.pw_top.specs.Soak.{PlansNumber, SoaksPlan, IsSoakAnswer}
 use Rattle.pw_top.specs.Usage.{Words, command_of}
-use Rattle.pw_top.proofs.OnePartLemmas.{IsShort, HasOne, binds_related}
+use Rattle.pw_top.proofs.OnePartLemmas.{IsShort, binds_related}
 use Rattle.pw_top.proofs.OneRunLemmas.{file_one}
 use Rattle.pw_top.proofs.OneGroupsLemmas.{parts_one}
 use Rattle.pw_top.proofs.OneSoakLemmas.{number_one}

@@ -1,7 +1,7 @@
 -- Laws of `specs/Check.antt`: a script's names are such as lines can name, and one answer of
 -- `check` is allowed.
-use Rattle.std.proofs.Common.{◌≡◌, ℕ, ◌&&◌, true, false, List, [], ◌∷◌, map, length, refl, sym, ap, ◌∙◌, IsTrue}
-use Rattle.std.specs.Prelude.{Ok, All, nat_le}
+use Rattle.std.proofs.Common.{ℕ, List, [], map, sym, ap, ◌∙◌}
+use Rattle.std.specs.Prelude.{Ok}
 use Rattle.pw_graph.specs.declared.shape.Shape.{Shape}
 use Rattle.pw_outside.specs.Files.{Names}
 use Rattle.cycle_trace.specs.TraceReading.{AreNames}

@@ -15,7 +15,6 @@ use Rattle.pw_top.specs.declared.commands.check_traces.Seen.{Seen}
 use Rattle.pw_top.specs.declared.commands.check_traces.Seen.TheVariants.{Line, Events}
 use Rattle.run_results.specs.declared.found.Found.{Found}
 use Rattle.run_results.specs.declared.found.What.{What}
-use Rattle.run_results.specs.declared.found.What.TheVariants as W
 use Rattle.pw_top.specs.declared.planned.Planned.{Planned}
 use Rattle.run_results.specs.declared.status.Status.{Status}
 use Rattle.run_results.specs.declared.status.Status.TheVariants as S
@@ -26,12 +25,11 @@ use Rattle.pw_top.specs.Answer.{Expected}
 use Rattle.pw_top.specs.Allowed.{IsLoad}
 use Rattle.run_results.specs.Places.{trace_place}
 use Rattle.pw_top.specs.Check.{trace_bytes_limit}
-use Rattle.pw_top.specs.Following.{status_of}
 use Rattle.pw_top.specs.Found.{IsFound, found_after}
 use Rattle.pw_top.specs.ScriptFile.{PlansFile}
 use Rattle.pw_top.specs.ScriptFound.{end_of, EndsAtLoad, IsScriptUnder, IsScriptBy, IsScriptOf}
 use Rattle.pw_top.specs.StatusLine.{has_line}
-use Rattle.pw_top.specs.Usage.{Words, command_of}
+use Rattle.pw_top.specs.Usage.{Words, IsRead, command_of}
 use Rattle.pw_top.specs.WhatFound.{Gives, IsFoundIn, IsFoundUnder, IsFoundByCheck, IsWhatBy, IsWhatOf, IsWhat}
 use Rattle.pw_top.specs.WorkFound.{IsDone, IsWorkFound, work_in}
 use Rattle.pw_top.specs.working.Delivery.{Delivered, LineEnds}
@@ -108,10 +106,31 @@ pub script_read : (expected : Result CommandLine Status) (held : Held) (c : Comm
     → expected ≡ Ok c → IsScriptBy c held status script → IsScriptOf expected held status script
 script_read expected held c status script e h = subst (λ (x : Result CommandLine Status). IsScriptOf x held status script) (sym e) h
 
-pub script_refused : (expected : Result CommandLine Status) (held : Held) (status end : Status) (script : Option (List ℕ))
-    → expected ≡ Err status → script ≡ None → IsScriptOf expected held end script
-script_refused expected held status end script e h =
-    subst (λ (x : Result CommandLine Status). IsScriptOf x held end script) (sym e) h
+-- they were not: they are refused, or memory was short
+none_short : (expected : Result CommandLine Status) (held : Held) → IsScriptOf expected held S.Memory None
+none_short (Err refusal) held = refl
+none_short (Ok (C.Run c)) held = tt
+none_short (Ok (C.Check c)) held = tt
+none_short (Ok (C.Groups c)) held = tt
+none_short (Ok (C.Dump c)) held = refl
+none_short (Ok (C.Filter c)) held = refl
+none_short (Ok (C.Automate c)) held = refl
+none_short (Ok (C.Soak c)) held = refl
+
+pub script_refused : (expected : Result CommandLine Status) (held : Held) (status : Status) (script : Option (List ℕ))
+    → IsRead expected (Err status) → script ≡ None → IsScriptOf expected held status script
+script_refused expected held (S.Usage w) script e h =
+    subst (λ (x : Result CommandLine Status). IsScriptOf x held (S.Usage w) script) (sym e) h
+script_refused expected held S.Memory script e h =
+    subst (λ (s : Option (List ℕ)). IsScriptOf expected held S.Memory s) (sym h) (none_short expected held)
+script_refused expected held S.Ok script e h = absurd e
+script_refused expected held (S.Script w v) script e h = absurd e
+script_refused expected held (S.Wav w v) script e h = absurd e
+script_refused expected held (S.Pod w v) script e h = absurd e
+script_refused expected held (S.Absent w) script e h = absurd e
+script_refused expected held (S.ReadFault w) script e h = absurd e
+script_refused expected held (S.WriteFault w) script e h = absurd e
+script_refused expected held (S.Limit w v) script e h = absurd e
 
 -- HOW A COMMAND GOES ON: it was not ended by the load of its script, or ends as it would have, or memory is short
 abbrev pub GoesOn : Status → Status → Type 0

@@ -1,5 +1,5 @@
 -- Laws of `specs/Joined.antt`: what is found of a list, and of one without an item; one number more; one run more.
-use Rattle.std.proofs.Common.{◌≡◌, ◌≢◌, ℕ, zero, suc, ◌+◌, ◌<◌, ◌≤◌, ◌==◌, Bool, true, false, cond, List, [], ◌∷◌, ◌++◌, length, get_or, map, refl, sym, ap, subst, ◌∙◌, arith, rules}
+use Rattle.std.proofs.Common.{◌≡◌, ◌≢◌, ℕ, zero, suc, ◌+◌, ◌<◌, ◌≤◌, ◌==◌, Bool, true, false, cond, List, [], ◌∷◌, ◌++◌, length, get_or, refl, sym, ap, ◌∙◌, arith, rules}
 use Rattle.std.proofs.Common.{append-nil, add-one, zero-add}
 use Rattle.std.specs.Prelude.{Option, Some, None, find, filter_map, flat_map, slice_get, nat_lt}
 use Rattle.std.specs.List.{range_with_len, cons_option, position, position_or_len, remove}

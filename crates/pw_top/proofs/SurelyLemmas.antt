@@ -1,8 +1,8 @@
 -- Laws of `specs/Surely.antt`: where no count rises, what a status says is all of the answer.
-use Rattle.std.proofs.Common.{◌≡◌, ℕ, zero, suc, ◌≤◌, subst, refl, sym, ap, inl, inr, List, ◌∙◌, arith, ◌++◌}
-use Rattle.std.specs.Prelude.{◌⊎◌, ◌≢◌, [], take, Some, Option, unwrap_or, Result, Ok, Err}
+use Rattle.std.proofs.Common.{◌≡◌, ℕ, zero, suc, subst, refl, sym, ap, inl, inr, List, ◌∙◌, arith, ◌++◌}
+use Rattle.std.specs.Prelude.{◌⊎◌, [], take, Some, unwrap_or, Result, Ok, Err}
 use Rattle.pw_outside.specs.Files.{Names}
-use Rattle.pw_outside.specs.Output.{Given, Gave, GavePart}
+use Rattle.pw_outside.specs.Output.{Given, GavePart}
 use Rattle.pw_outside.specs.Causes.{Rose}
 use Rattle.run_results.specs.declared.status.Status.{Status}
 use Rattle.run_results.specs.declared.status.Status.TheVariants as S

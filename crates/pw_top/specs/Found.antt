@@ -1,6 +1,6 @@
 -- What a call found, beyond its report: the script that it read, the work that was done, and what
 -- its command found. Source: this project's own.
-use Rattle.std.specs.Prelude.{◌≡◌, ℕ, List, None, Result}
+use Rattle.std.specs.Prelude.{◌≡◌, None, Result}
 use Rattle.pw_outside.specs.Files.{Held}
 use Rattle.run_results.specs.declared.found.Found.{Found}
 use Rattle.run_results.specs.declared.found.What.TheVariants.{Nothing}
@@ -18,7 +18,7 @@ pub record IsFound (words : Words) (held : Held) (status : Status) (found : Foun
   pub what : IsWhat words held status found.what
 
 abbrev pub HasFoundNothing : Found → Type 0
-HasFoundNothing found = found ≡ record { script = None; work = None; what = Nothing }
+HasFoundNothing found = (found.script ≡ None) × (found.work ≡ None) × (found.what ≡ Nothing)
 
 -- what is left of what was found, and of the work that was prepared
 abbrev pub found_after : Status → Result Work Status → Found → Found

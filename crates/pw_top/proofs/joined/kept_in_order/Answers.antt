@@ -1,6 +1,5 @@
 -- What a sink has kept is taken out, or there is none; of later nodes all is left.
-use Rattle.std.proofs.Common.{◌≡◌, ◌≤◌, ◌<◌, ◌+◌, ℕ, ◌∙◌, ◌++◌, ◌∷◌, [], List, sym, ap, arith}
-use Rattle.std.specs.Prelude.{Some, None}
+use Rattle.std.proofs.Common.{◌≡◌, ℕ, ◌∙◌, ◌++◌, ◌∷◌, [], List, sym, ap, arith}
 use Rattle.wav_files.specs.declared.outcome.Kept.{Kept}
 use Rattle.pw_top.specs.Joined.{kept_at}
 use Rattle.pw_top.proofs.JoinedLemmas.{one_given, none_given}

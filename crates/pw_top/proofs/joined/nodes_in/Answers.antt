@@ -1,6 +1,6 @@
 -- One node more, or none.
-use Rattle.std.proofs.Common.{◌≡◌, ◌∙◌, ◌++◌, ◌∷◌, [], List, sym, ap}
-use Rattle.std.specs.Prelude.{Some, None, option_copied}
+use Rattle.std.proofs.Common.{◌∙◌, ◌++◌, ◌∷◌, [], List, sym, ap}
+use Rattle.std.specs.Prelude.{Some}
 use Rattle.pw_graph.specs.declared.plan.PlanNode.{PlanNode}
 use Rattle.pw_top.specs.Joined.{node_in}
 use Rattle.pw_top.proofs.JoinedLemmas.{one_given, none_given}

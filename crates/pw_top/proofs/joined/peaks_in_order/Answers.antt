@@ -1,6 +1,5 @@
 -- One peak more, or none.
-use Rattle.std.proofs.Common.{◌≡◌, ◌∙◌, ◌++◌, ◌∷◌, [], List, sym, ap}
-use Rattle.std.specs.Prelude.{Some, None, option_copied}
+use Rattle.std.proofs.Common.{◌∙◌, ◌++◌, ◌∷◌, [], List, sym, ap}
 use Rattle.wav_files.specs.declared.outcome.Peak.{Peak}
 use Rattle.pw_top.specs.Joined.{peak_at}
 use Rattle.pw_top.proofs.JoinedLemmas.{one_given, none_given}

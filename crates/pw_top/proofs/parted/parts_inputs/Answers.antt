@@ -1,5 +1,5 @@
 -- The parts are kept with their script, and can be run.
-use Rattle.std.proofs.Common.{ℕ, ◌<◌, [], length, refl}
+use Rattle.std.proofs.Common.{◌<◌, [], length, refl}
 use Rattle.wav_files.specs.declared.outcome.Kept.{Kept}
 use Rattle.pw_top.specs.Allowed.{Reads}
 use Rattle.pw_top.specs.Groups.{PartsTo, KeepsParts}

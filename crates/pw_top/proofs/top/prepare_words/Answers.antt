@@ -1,4 +1,4 @@
-use Rattle.std.proofs.Common.{map, ap}
+use Rattle.std.proofs.Common.{map}
 use Rattle.std.specs.Prelude.{string_bytes}
 use Rattle.pw_top.specs.Usage.{command_of}
 use Rattle.pw_top.proofs.CommandLineLemmas.{answer_read, answer_stop}
@@ -21,4 +21,4 @@ returns-in-Ok-clause-script g c = script_read (command_of (map string_bytes c.ar
 
 pub returns-in-Err-clause-script : goal.returns-in-Err-clause-script
 returns-in-Err-clause-script g c = script_refused (command_of (map string_bytes c.args.words.now)) (g.F.Files.held c.args.files.now) c.in-Err.status
-    _ c.args.found.now.script c.in-Err.ensures.read (ap (λ f. f.script) c.requires.unfound)
+    c.args.found.now.script c.in-Err.ensures.read c.requires.unfound.0

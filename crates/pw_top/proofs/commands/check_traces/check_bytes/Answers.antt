@@ -26,4 +26,4 @@ returns-in-Ok-check_work-clause-what c =
     let shapes = map (λ e. e.shape) c.args.plan.now.epochs in
     let bytes = c.args.bytes.now in
     let seen = subst (λ bs. IsSeenOn names shapes bs c.in-Ok.seen) c.as_slice.ensures c.in-Ok.ensures in
-    subst (IsFoundIn names shapes bytes) (sym c.what_by-found.ensures) (seen_found names shapes bytes c.in-Ok.seen seen)
+    subst (IsFoundIn names shapes bytes) (sym c.what_by.ensures) (seen_found names shapes bytes c.in-Ok.seen seen)

@@ -1,9 +1,7 @@
 -- What the runs have left, in order.
-use Rattle.std.proofs.Common.{◌≡◌, ◌∙◌, [], List, ap, map}
+use Rattle.std.proofs.Common.{◌≡◌, ◌∙◌, [], ap, map}
 use Rattle.pw_graph.specs.declared.parts.Part.{Part}
-use Rattle.wav_files.specs.declared.outcome.Kept.{Kept}
 use Rattle.wav_files.specs.declared.outcome.Outcome.{Outcome}
-use Rattle.wav_files.specs.declared.outcome.Peak.{Peak}
 use Rattle.pw_top.specs.Joined.{all_of, in_order}
 use Rattle.pw_top.specs.PlannedWork.{rendered}
 use Rattle.pw_top.proofs.GroupsLemmas.{runs_sinks, runs_peaks}

@@ -1,9 +1,8 @@
 -- Commands other than `run`, `soak` and `groups` run nothing, those other than `check` find nothing, and those other than `run`,
 -- `check` and `groups` read no script.
-use Rattle.std.proofs.Common.{◌≡◌, ℕ, ap}
-use Rattle.std.specs.Prelude.{None, Result, Ok, Err}
+use Rattle.std.proofs.Common.{◌≡◌, ℕ}
+use Rattle.std.specs.Prelude.{Result, Ok, Err}
 use Rattle.pw_outside.specs.Files.{names_in}
-use Rattle.run_results.specs.declared.found.Found.{Found}
 use Rattle.run_results.specs.declared.found.What.TheVariants.{Nothing}
 use Rattle.run_results.specs.declared.status.Status.{Status}
 use Rattle.run_results.specs.declared.work.Work.{Work}
@@ -13,7 +12,6 @@ use Rattle.pw_top.specs.Dump.{IsDumpAnswer}
 use Rattle.pw_top.specs.Filter.{IsFilterAnswer}
 use Rattle.pw_top.specs.Automate.{IsAutomateAnswer}
 use Rattle.pw_top.specs.Check.{IsCheckAnswer}
-use Rattle.pw_top.specs.Found.{HasFoundNothing}
 use Rattle.pw_top.proofs.AllowedLemmas.{quiet_cause}
 use Rattle.pw_top.proofs.FoundLemmas.{ok_always}
 use Rattle.pw_top.proofs.PlayingLemmas.{plays_idly}
@@ -47,42 +45,35 @@ quiet n (Err status) h = quiet_cause IsDeliverable IsDeliverable n status h
 pub returns-in-Soak-clause-cause : goal.returns-in-Soak-clause-cause
 returns-in-Soak-clause-cause g c = quiet _ c.play-in-Soak.result c.play-in-Soak.ensures.cause
 
--- what was not found yet
-nothing : (found : Found) → HasFoundNothing found → found.what ≡ Nothing
-nothing found h = ap (λ f. f.what) h
-
-unread : (found : Found) → HasFoundNothing found → found.script ≡ None
-unread found h = ap (λ f. f.script) h
-
 pub returns-in-Run-clause-what : goal.returns-in-Run-clause-what
-returns-in-Run-clause-what g c = rw c.in-Run.is (ok_always c.play.result (c.args.found.now.what ≡ Nothing) (nothing c.args.found.now c.requires.unfound))
+returns-in-Run-clause-what g c = rw c.in-Run.is (ok_always c.play.result (c.args.found.now.what ≡ Nothing) c.requires.unfound.2)
 
 pub returns-in-Dump-clause-what : goal.returns-in-Dump-clause-what
-returns-in-Dump-clause-what g c = rw c.in-Dump.is (ok_always c.prepare.result (c.args.found.now.what ≡ Nothing) (nothing c.args.found.now c.requires.unfound))
+returns-in-Dump-clause-what g c = rw c.in-Dump.is (ok_always c.prepare.result (c.args.found.now.what ≡ Nothing) c.requires.unfound.2)
 
 pub returns-in-Filter-clause-what : goal.returns-in-Filter-clause-what
-returns-in-Filter-clause-what g c = rw c.in-Filter.is (ok_always c.prepare-in-Filter.result (c.args.found.now.what ≡ Nothing) (nothing c.args.found.now c.requires.unfound))
+returns-in-Filter-clause-what g c = rw c.in-Filter.is (ok_always c.prepare-in-Filter.result (c.args.found.now.what ≡ Nothing) c.requires.unfound.2)
 
 pub returns-in-Automate-clause-what : goal.returns-in-Automate-clause-what
-returns-in-Automate-clause-what g c = rw c.in-Automate.is (ok_always c.prepare-in-Automate.result (c.args.found.now.what ≡ Nothing) (nothing c.args.found.now c.requires.unfound))
+returns-in-Automate-clause-what g c = rw c.in-Automate.is (ok_always c.prepare-in-Automate.result (c.args.found.now.what ≡ Nothing) c.requires.unfound.2)
 
 pub returns-in-Soak-clause-what : goal.returns-in-Soak-clause-what
-returns-in-Soak-clause-what g c = rw c.in-Soak.is (ok_always c.play-in-Soak.result (c.args.found.now.what ≡ Nothing) (nothing c.args.found.now c.requires.unfound))
+returns-in-Soak-clause-what g c = rw c.in-Soak.is (ok_always c.play-in-Soak.result (c.args.found.now.what ≡ Nothing) c.requires.unfound.2)
 
 pub returns-in-Groups-clause-what : goal.returns-in-Groups-clause-what
-returns-in-Groups-clause-what g c = rw c.in-Groups.is (ok_always c.play-in-Groups.result (c.args.found.now.what ≡ Nothing) (nothing c.args.found.now c.requires.unfound))
+returns-in-Groups-clause-what g c = rw c.in-Groups.is (ok_always c.play-in-Groups.result (c.args.found.now.what ≡ Nothing) c.requires.unfound.2)
 
 pub returns-in-Dump-clause-script : goal.returns-in-Dump-clause-script
-returns-in-Dump-clause-script g c = rw c.in-Dump.is (unread c.args.found.now c.requires.unfound)
+returns-in-Dump-clause-script g c = rw c.in-Dump.is c.requires.unfound.0
 
 pub returns-in-Filter-clause-script : goal.returns-in-Filter-clause-script
-returns-in-Filter-clause-script g c = rw c.in-Filter.is (unread c.args.found.now c.requires.unfound)
+returns-in-Filter-clause-script g c = rw c.in-Filter.is c.requires.unfound.0
 
 pub returns-in-Automate-clause-script : goal.returns-in-Automate-clause-script
-returns-in-Automate-clause-script g c = rw c.in-Automate.is (unread c.args.found.now c.requires.unfound)
+returns-in-Automate-clause-script g c = rw c.in-Automate.is c.requires.unfound.0
 
 pub returns-in-Soak-clause-script : goal.returns-in-Soak-clause-script
-returns-in-Soak-clause-script g c = rw c.in-Soak.is (unread c.args.found.now c.requires.unfound)
+returns-in-Soak-clause-script g c = rw c.in-Soak.is c.requires.unfound.0
 
 pub returns-in-Run-clause-script : goal.returns-in-Run-clause-script
 returns-in-Run-clause-script g c = rw c.in-Run.is c.play.ensures.source
@@ -92,12 +83,3 @@ returns-in-Check-clause-script g c = rw c.in-Check.is c.find.ensures.source
 
 pub returns-in-Groups-clause-script : goal.returns-in-Groups-clause-script
 returns-in-Groups-clause-script g c = rw c.in-Groups.is c.play-in-Groups.ensures.source
-
-pub play-requires-clause-unread : goal.play-requires-clause-unread
-play-requires-clause-unread g c = unread c.args.found.now c.requires.unfound
-
-pub find-requires : goal.find-requires
-find-requires g c = unread c.args.found.now c.requires.unfound
-
-pub play-in-Groups-requires-clause-unread : goal.play-in-Groups-requires-clause-unread
-play-in-Groups-requires-clause-unread g c = unread c.args.found.now c.requires.unfound
