@@ -36,18 +36,24 @@ cause_text script event C.DriverStarted = node_said (codes "the driver")
     (codes " has started in cycle ") (cycle_of event) (codes ", and a tick comes before that")
 cause_text script event (C.NotLate n) = not_late (node_text script n) (cycle_of event)
 
--- WHAT IS MISSING where no event comes
+-- WHAT IS MISSING where no event comes: by one of three causes, since no reason then has another
+unfoldable pub an_event : List ℕ
+an_event = codes "an event is missing"
+
 abbrev pub missing_text : Option (List ℕ) → Cause → List ℕ
 missing_text script (C.NotBegun k) = not_begun k
 missing_text script (C.NotEnded k) = not_ended k
 missing_text script (C.NotFinished k n) = not_finished script k n
-missing_text script cause = codes "an event is missing"
+missing_text script cause = an_event
+
+unfoldable pub too_soon : Option (List ℕ) → Cause → List ℕ
+too_soon script cause = codes "the trace ends too soon: " ++ missing_text script cause
 
 -- THE NOTE on a trace that is no legal history, by the event at the place of the reason
 abbrev pub reason_said : Option (List ℕ) → Option Event → Cause → List ℕ
 reason_said script (Some event) cause =
     event_words script event ++ (codes ": " ++ cause_text script event cause)
-reason_said script None cause = codes "the trace ends too soon: " ++ missing_text script cause
+reason_said script None cause = too_soon script cause
 
 abbrev pub reason_note : Words → Option (List ℕ) → Option Event → Reason → List ℕ
 reason_note words script event r =

@@ -1,5 +1,5 @@
--- The samples that a sink stored, and how many of them are at a limit. Source: PCM of 16 bits, whose
--- samples are from -32768 to 32767.
+-- The samples that a sink stored, and how many of them are at a limit. Source: PCM of 16 bits,
+-- whose samples are from -32768 to 32767.
 use Rattle.std.specs.Prelude.{ℕ, ◌==◌, ◌||◌, Bool, false, List, find, count_by, length, Option, Some, None}
 use Rattle.std.specs.Prelude.{ℤ, pos, neg_ℤ, int_le}
 use Rattle.run_results.specs.declared.work.Content.{Content}

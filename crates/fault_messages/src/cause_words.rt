@@ -1,13 +1,13 @@
 //! What is wrong with an event of a trace, or what is missing where none comes, in parts.
-ghost use Rattle.std.specs.Prelude.{◌≡◌, ◌++◌, option_copied, OnOk};
+ghost use Rattle.std.specs.Prelude.{◌≡◌, ◌++◌, decimal, option_copied, OnOk};
 ghost use Rattle.fault_messages.specs.CauseWords.{cycle_of, its_node, not_begun, only_begin, not_ended};
 ghost use Rattle.fault_messages.specs.CauseWords.{not_finished, node_said, waits_for, not_late};
 ghost use Rattle.fault_messages.specs.NodeNames.{node_text};
 
-use crate::node_names::put_node;
+use crate::node_names::{put_node, put_node_between};
 use crate::putting::put_number;
 use pw_graph::Event;
-use pw_lists::{Memory, Text};
+use pw_lists::{Memory, Text, append_decimal};
 
 /// The cycle of an event.
 pub fn cycle_of(event: Event) -> u32
@@ -57,6 +57,24 @@ pub fn put_not_ended(text: &mut Text, cycle: u32) -> Result<(), Memory>
     put_number(text, b"cycle ", cycle, b" has begun and not ended")
 }
 
+// A cycle and a node of it, with words before each and after them.
+fn put_cycle_node(
+    text: &mut Text,
+    before: &[u8],
+    cycle: u32,
+    between: &[u8],
+    script: Option<&[u8]>,
+    node: u32,
+    behind: &[u8],
+) -> Result<(), Memory>
+    ensures { OnOk result (text.new ≡ text.old ++ (before.now ++ (decimal cycle
+        ++ (between.now ++ (node_text (option_copied script.entry) node ++ behind.now))))) }
+{
+    text.extend(before)?;
+    append_decimal(text, u64::from(cycle))?;
+    put_node_between(text, between, script, node, behind)
+}
+
 /// That a cycle cannot end before a node has finished.
 #[tactic(auto, unfolding(crate::specs::CauseWords::not_finished))]
 pub fn put_not_finished(
@@ -68,9 +86,15 @@ pub fn put_not_finished(
     ensures { OnOk result
         (text.new ≡ text.old ++ not_finished (option_copied script.entry) cycle node) }
 {
-    put_number(text, b"cycle ", cycle, b" cannot end before ")?;
-    put_node(text, script, node)?;
-    text.extend(b" has finished")
+    put_cycle_node(
+        text,
+        b"cycle ",
+        cycle,
+        b" cannot end before ",
+        script,
+        node,
+        b" has finished",
+    )
 }
 
 /// What is said of something in a cycle.

@@ -8,6 +8,7 @@ ghost use Rattle.fault_messages.specs.FileMessages.{limit_said, is_of_file, limi
 use crate::lines::begins;
 use crate::places::{file_word, put_file};
 use pw_lists::{Memory, Text, Which};
+use system_files::FileWhy;
 use wav_files::WavFault;
 
 /// Why a WAV file is refused.

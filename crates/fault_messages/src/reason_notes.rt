@@ -1,7 +1,8 @@
 //! Why the events of a trace are no legal history, in words.
 ghost use Rattle.std.specs.Prelude.{◌≡◌, ◌++◌, decimal, map, string_bytes, option_copied, OnOk};
 ghost use Rattle.fault_messages.specs.Notes.{trace_head};
-ghost use Rattle.fault_messages.specs.ReasonNotes.{cause_text, missing_text, reason_said, reason_note};
+ghost use Rattle.fault_messages.specs.ReasonNotes.{cause_text, an_event, missing_text, too_soon};
+ghost use Rattle.fault_messages.specs.ReasonNotes.{reason_said, reason_note};
 
 use crate::cause_words::{
     cycle_of, put_node_said, put_not_begun, put_not_ended, put_not_finished, put_not_late,
@@ -65,6 +66,13 @@ fn put_cause(
     }
 }
 
+#[tactic(auto, unfolding(crate::specs::ReasonNotes::an_event))]
+fn an_event() -> &'static [u8]
+    ensures { result.now ≡ an_event }
+{
+    b"an event is missing"
+}
+
 // What is missing where no event comes.
 fn put_missing(text: &mut Text, script: Option<&[u8]>, cause: Cause) -> Result<(), Memory>
     ensures { OnOk result
@@ -74,8 +82,25 @@ fn put_missing(text: &mut Text, script: Option<&[u8]>, cause: Cause) -> Result<(
         Cause::NotBegun { cycle } => put_not_begun(text, cycle),
         Cause::NotEnded { cycle } => put_not_ended(text, cycle),
         Cause::NotFinished { cycle, node } => put_not_finished(text, script, cycle, node),
-        _ => text.extend(b"an event is missing"),
+        Cause::AllEnded => text.extend(an_event()),
+        Cause::NotActive => text.extend(an_event()),
+        Cause::Started => text.extend(an_event()),
+        Cause::WaitsFor { .. } => text.extend(an_event()),
+        Cause::NotStarted => text.extend(an_event()),
+        Cause::Finished => text.extend(an_event()),
+        Cause::Ticked => text.extend(an_event()),
+        Cause::DriverStarted => text.extend(an_event()),
+        Cause::NotLate { .. } => text.extend(an_event()),
     }
+}
+
+// That the trace ends too soon.
+#[tactic(auto, unfolding(crate::specs::ReasonNotes::too_soon))]
+fn put_too_soon(text: &mut Text, script: Option<&[u8]>, cause: Cause) -> Result<(), Memory>
+    ensures { OnOk result (text.new ≡ text.old ++ too_soon (option_copied script.entry) cause) }
+{
+    text.extend(b"the trace ends too soon: ")?;
+    put_missing(text, script, cause)
 }
 
 // The event and what is wrong with it, or that the trace ends too soon.
@@ -89,10 +114,7 @@ fn put_reason(
         (text.new ≡ text.old ++ reason_said (option_copied script.entry) event cause) }
 {
     match event {
-        None => {
-            text.extend(b"the trace ends too soon: ")?;
-            put_missing(text, script, cause)
-        }
+        None => put_too_soon(text, script, cause),
         Some(event) => {
             put_event(text, script, event)?;
             text.extend(b": ")?;
