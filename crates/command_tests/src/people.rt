@@ -445,6 +445,51 @@ const NOTES: &'static [Asked] = &[
     },
 ];
 
+/// Notes on traces: under an odd name, of the longest name of a node, and of the script itself.
+const TRACES: &'static [Asked] = &[
+    Asked {
+        line: "check s.graph a\\b\u{1}.txt",
+        script: b"cycles 1\n",
+        files: &[("a\\b\u{1}.txt", Held::Bytes(b"begin 0\nend 0\n"))],
+        code: 0,
+        out: b"illegal 2\n",
+        said: b"a\\\\b\\x01.txt:2: end 0: cycle 0 cannot end before \"dummy\" has finished",
+        ..RUN
+    },
+    Asked {
+        line: "check s.graph t.txt",
+        script: b"meter a23456789_123456789_123456789_1\ncycles 1\n",
+        files: &[(
+            "t.txt",
+            Held::Bytes(b"begin 0\nfinish 0 a23456789_123456789_123456789_1\n"),
+        )],
+        code: 0,
+        out: b"illegal 2\n",
+        said: b"t.txt:2: finish 0 a23456789_123456789_123456789_1: \
+            \"a23456789_123456789_123456789_1\" has not started in cycle 0",
+        ..RUN
+    },
+    Asked {
+        line: "check s.graph s.graph",
+        script: b"# begin 0\ncycles 1\n",
+        code: 0,
+        out: b"line 1\n",
+        said: b"s.graph:1: no event line; grep -E '^(begin|start|finish|tick|end) ' \
+            takes those of a run's text",
+        ..RUN
+    },
+    Asked {
+        line: "check s.graph t.txt",
+        script: b"cycles 1\n",
+        files: &[("t.txt", Held::Bytes(b"begin 0\r\n"))],
+        code: 0,
+        out: b"line 1\n",
+        said: b"t.txt:1: no event line; grep -E '^(begin|start|finish|tick|end) ' \
+            takes those of a run's text",
+        ..RUN
+    },
+];
+
 /// Notes on sinks and meters.
 const SINKS: &'static [Asked] = &[
     Asked {
@@ -492,6 +537,15 @@ const SINKS: &'static [Asked] = &[
         out: b"link s.out o.in 48000 1 2\nwrote o 4\n",
         said: b"s.graph:3: \"s.wav\" is a source's file too: it was read first, \
             and written after that",
+        ..RUN
+    },
+    Asked {
+        script: b"quantum 2\nsource s s.wav\nsink o \"a\\b.wav\nsink p \"a\\b.wav\n\
+            link s.out p.in\nlink s.out o.in\ncycles 2\n",
+        code: 0,
+        out: b"link s.out p.in 48000 1 2\nlink s.out o.in 48000 1 2\nwrote o 4\nwrote p 4\n",
+        said: b"s.graph:3: \"\"a\\\\b.wav\" is written by a later sink too; \
+            a regular file keeps what is written last",
         ..RUN
     },
     Asked {
@@ -647,6 +701,7 @@ fn wrong_lines_of_scripts_have_their_sentences(rt: HostRuntime) {
 #[test]
 fn notes_and_odd_names_are_shown(rt: HostRuntime) {
     assert_eq!(rt; first_unlike(&rt, NOTES, b""), None);
+    assert_eq!(rt; first_unlike(&rt, TRACES, b""), None);
     assert_eq!(rt; first_unlike(&rt, SINKS, b""), None);
     assert_eq!(rt; first_unlike(&rt, CLIPPED, b""), None);
     assert_eq!(rt; first_unlike(&rt, NAMES, b""), None);

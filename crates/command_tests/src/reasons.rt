@@ -277,7 +277,8 @@ fn said_of(
     explain(alloc, &Status::Ok, &found, None, words.as_slice())
 }
 
-/// A script whose bytes may be at hand, an event, a node for which its node waits, and what is said.
+/// A script whose bytes may be at hand, an event, a node for which its node waits, and what is
+/// said.
 type Named = (Option<&'static [u8]>, Option<Event>, u32, &'static [u8]);
 
 // Whether what is said is as wanted.
