@@ -99,7 +99,8 @@ fn nodes_go_to_their_loops<R: Wait>(rt: &R, ways: &Ways, first: &mut Way, second
         && (first.taken(), second.taken()) == (2, 1)
 }
 
-// A full queue loses nothing.
+// A full queue loses nothing: 64 pushes are taken, those after them come back as their bits, and
+// all 64 are then received.
 fn full_queue_loses_nothing<R: Wait>(
     rt: &R,
     ways: &Ways,
@@ -121,6 +122,44 @@ fn full_queue_loses_nothing<R: Wait>(
         && taken == 64
         && rest == [None, Some(2)]
         && (first.taken(), second.taken()) == (64, 1)
+}
+
+// Receives until the first None, so often at most: how often it was this node before.
+fn receive_all<R: Wait>(rt: &R, ways: &Ways, way: &mut Way, most: u32, node: u32) -> u32
+    requires answered { IsWayOf ways.now way.old }
+    requires own { way.old.number < ways.now.loops }
+    ensures answered { IsWayOf ways.now way.new }
+    ensures number { way.new.number ≡ way.old.number }
+{
+    let mut count = 0u32;
+    for _ in 0..most {
+        if ways.receive(rt, way) != Some(node) {
+            break;
+        }
+        count = count.saturating_add(1);
+    }
+    count
+}
+
+// A receive finds nothing only where nothing is left: after 0, 1, 2 .. 64 pushes each is received
+// before the first None. So the numbers go round the queue 32 times.
+fn none_only_of_an_empty_queue<R: Wait>(
+    rt: &R,
+    ways: &Ways,
+    driver: &mut Way,
+    first: &mut Way,
+) -> bool
+    requires loops { ways.now.loops ≡ 2 }
+    requires driver { IsWayOf ways.now driver.old }
+    requires first { IsWayOf ways.now first.old × (first.old.number ≡ 0) }
+{
+    for pushes in 0..65 {
+        let sent = send_often(rt, ways, driver, 2, pushes, 0);
+        if sent != pushes || receive_all(rt, ways, first, 66, 1) != pushes {
+            return false;
+        }
+    }
+    first.taken() == 2080 && ways.receive(rt, first).is_none()
 }
 
 // What is forwarded wakes others: both nodes of its own loop, that of the other, and the driver's.
@@ -210,7 +249,7 @@ fn calls_are_seen<R: Wait>(
         && (first.number(), second.number(), driver.number()) == (0, 1, 2)
 }
 
-// One of these six, by its number.
+// One of these seven, by its number.
 fn goes<R: Wait>(
     rt: &R,
     which: u32,
@@ -231,6 +270,7 @@ fn goes<R: Wait>(
         3 => forwarded_wakes_others(rt, ways, driver, first, second),
         4 => driver_is_woken(rt, ways, driver, first, second),
         5 => calls_are_seen(rt, ways, driver, first, second),
+        6 => none_only_of_an_empty_queue(rt, ways, driver, first),
         _ => false,
     }
 }
@@ -247,7 +287,7 @@ fn goes_anew<R: Wait>(rt: &R, alloc: Global, which: u32) -> bool {
 
 // The first that goes otherwise.
 fn first_unlike<R: Wait>(rt: &R, alloc: Global) -> Option<u32> {
-    for which in 0..6 {
+    for which in 0..7 {
         if !goes_anew(rt, alloc, which) {
             return Some(which);
         }

@@ -17,11 +17,6 @@ module _ {A : Type 0} where
   slice_at_set (x ∷ xs) (suc i) zero a b e = inr ((λ h. omega arith), e)
   slice_at_set (x ∷ xs) (suc i) (suc j) a b e = ⊎_elim (λ t. inl (ap suc t.0, t.1)) (λ t. let n = t.0 in inr ((λ h. n (omega arith)), t.1)) (slice_at_set xs i j a b e)
 
-  pub slice_get_set : (l : List A) (i : ℕ) (a : A) → i < length l → slice_get (set l i a) i ≡ Some a
-  slice_get_set [] i a h = absurd (omega arith)
-  slice_get_set (x ∷ xs) zero a h = refl
-  slice_get_set (x ∷ xs) (suc i) a h = slice_get_set xs i a (omega arith)
-
 -- what holds of each end and itself, and of the one that was used and what it became
 pub related : (R : ℕ → End → End → Type 0) (ends : List End) (k : ℕ) (new : End) → ((j : ℕ) (e : End) → j ≢ k → R j e e)
     → ((e : End) → slice_get ends k ≡ Some e → R k e new)

@@ -1,21 +1,22 @@
 -- The ends of a way after it has tried to take a number out of a queue.
 use Rattle.std.proofs.Common.{◌≡◌, ℕ, ◌+◌, ◌<◌, Option, List, [], ◌∷◌, length, set, get_or, sym, refl, ap, ◌∙◌, subst, arith, cond, eq-eqb, ne_eqb, min, ◌^◌, ◌-◌, length-append}
-use Rattle.std.specs.Prelude.{Some, None, slice_get, IfSome, IfNone, MatchOption, is_some}
+use Rattle.std.specs.Prelude.{⊤, Some, None, slice_get, IfSome, IfNone, MatchOption, is_some}
 use Rattle.std.proofs.lemmas.Option.{get_or_from_slice_get, slice_get-get_or}
 use Rattle.std.proofs.lemmas.List.Sums.{sum_by-set}
+use Rattle.crossbeam_queue.specs.Fifo.{Held}
 use Rattle.crossbeam_queue.specs.Passes.{Pass, view, IsSamePass}
 use Rattle.ready_queues.specs.declared.hand.Hand.{Hand}
 use Rattle.ready_queues.specs.declared.end.End.{End}
 use Rattle.ready_queues.specs.declared.lane.Lane.{Lane}
 use Rattle.ready_queues.specs.Hands.{with_received}
-use Rattle.ready_queues.specs.QueueRule.{IsNodeOf, IsHandOf, HeldAt}
+use Rattle.ready_queues.specs.QueueRule.{IsNodeOf, IsHandOf}
 use Rattle.ready_queues.specs.Ends.{hand_of, wakes_of, AreEndsOf, received_by}
-use Rattle.ready_queues.specs.Receiving.{IsSameEnd, AreSameEnds, HasReceivedAt, HasReceived, WasEmpty}
-use Rattle.ready_queues.proofs.EndLemmas.{related, end_at, ends_set, some_is, slice_get_set}
+use Rattle.ready_queues.specs.Receiving.{IsSameEnd, AreSameEnds, HasReceivedAt, HasReceived}
+use Rattle.ready_queues.proofs.EndLemmas.{related, end_at, ends_set}
 
 -- what a pop says of the hand before and the hand after
 abbrev pub Popped : Option ℕ → Hand → Hand → Type 0
-Popped result h k = MatchOption result ((k ≡ h) × HeldAt 0 h) (λ x. (k ≡ with_received h x) × IsNodeOf h.owner h.number x)
+Popped result h k = MatchOption result ((k ≡ h) × Held 0 (λ (items : List ℕ). ⊤)) (λ x. (k ≡ with_received h x) × IsNodeOf h.owner h.number x)
 
 same_loop : (owner : List ℕ) (number : ℕ) (result : Option ℕ) (h k : Hand) → IsHandOf owner number h → Popped result h k → IsHandOf owner number k
 same_loop owner number None h k is p = subst (IsHandOf owner number) (sym p.0) is
@@ -52,14 +53,10 @@ module _ (owner : List ℕ) (lanes : List Lane) (ends : List End) (are : AreEnds
         wakes = ap wakes_of is;
       })
 
-  pub pop_none : (result : Option ℕ) → Popped result (hand_of old) (view pass) → IfNone result (AreSameEnds ends (set ends number new) × WasEmpty number (set ends number new))
+  pub pop_none : (result : Option ℕ) → Popped result (hand_of old) (view pass) → IfNone result (AreSameEnds ends (set ends number new))
   pop_none (Some x) p = tt
-  pop_none None p = (
-    related (λ j a b. IsSameEnd a b) ends number new (λ j e other. record { hand = refl; wakes = refl })
-        (λ e at. let is : old ≡ e = get_or_from_slice_get ends number e d at in record { hand = p.0 ∙ ap hand_of is; wakes = ap wakes_of is }),
-    (λ e at. let n = are.count in let is : new ≡ e = some_is new e (sym (slice_get_set ends number new (omega arith)) ∙ at) in
-        subst (HeldAt 0) (sym p.0 ∙ ap hand_of is) p.1),
-  )
+  pop_none None p = related (λ j a b. IsSameEnd a b) ends number new (λ j e other. record { hand = refl; wakes = refl })
+      (λ e at. let is : old ≡ e = get_or_from_slice_get ends number e d at in record { hand = p.0 ∙ ap hand_of is; wakes = ap wakes_of is })
 
   pub pop_count : (result : Option ℕ) → Popped result (hand_of old) (view pass) → received_by (set ends number new) ≡ received_by ends + cond (is_some result) 1 0
   pop_count result p = let n = are.count in let f : End → ℕ = λ e. length (hand_of e).received in

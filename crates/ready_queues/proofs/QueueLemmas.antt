@@ -6,11 +6,11 @@ use Rattle.std.proofs.lemmas.List.Elements.{All-head, All-tail, All-append, filt
 use Rattle.std.proofs.lemmas.List.Sums.{sum_by-cons, sum_by_push}
 use mathlib.Core.Option.{some, some-injective, some-ne-none}
 use lib.ListN.{get_elem?}
-use Rattle.crossbeam_queue.specs.Fifo.{Pushes, Pops, Forks, Learns}
+use Rattle.crossbeam_queue.specs.Fifo.{Pushes, Pops, Forks}
 use Rattle.crossbeam_queue.proofs.Lists.{at_set, at_snoc}
 use Rattle.ready_queues.specs.declared.hand.Hand.{Hand}
 use Rattle.ready_queues.specs.Hands.{hand, unnamed, with_pushed, with_received}
-use Rattle.ready_queues.specs.QueueRule.{IsNodeOf, times, pushes, receipts, IsHandOf, IsQueue, IsUnnamed, Keeps, Stood}
+use Rattle.ready_queues.specs.QueueRule.{IsNodeOf, times, pushes, receipts, IsHandOf, IsQueue, IsUnnamed, Keeps}
 
 -- a sum over the hands after one of them has changed
 sum_set : (f : Hand → ℕ) (hands : List Hand) (k : ℕ) (v w : Hand) → get_elem? hands k ≡ some v → sum_by f (set hands k w) + f v ≡ sum_by f hands + f w
@@ -94,9 +94,6 @@ may_pop port h named x items hands kept at =
       ),
       (refl, All-head (IsNodeOf h.owner h.number) x items q.nodes),
     )
-
-pub learns : (port : ℕ) (h : Hand) → h.named ≡ true → Learns Keeps port h (Stood h)
-learns port h named items hands kept at = (hands, port, named_queue items hands port h kept at named, at)
 
 -- one hand more, with which nothing was done
 pub may_deal : (port : ℕ) (h : Hand) → h.named ≡ true → Forks Keeps port h h (hand h.owner h.number [] [])

@@ -33,7 +33,7 @@ HasUnparked owner loops woke number a b = (times : ℕ)
     × IsUnparkedFor owner loops woke number times × (b ≡ given_on a times)
 
 -- the nodes of the set were sent, and the way's own loop was spared; `full` has the bits of those
--- that found their queue full
+-- that came back and were not pushed
 pub record HasForwarded (owner : List ℕ) (loops woke full : ℕ) (a b : Way) : Type 0 where
   pub number : b.number ≡ a.number
   pub own : parker_view b.own ≡ parker_view a.own

@@ -5,7 +5,6 @@ use Rattle.std.specs.Prelude.{◌≡◌, ℕ, ◌+◌, ◌⊎◌, true, List, []
 use Rattle.std.specs.List.{sum_by}
 use mathlib.Core.Option.{some}
 use lib.ListN.{get_elem?}
-use Rattle.crossbeam_queue.specs.Fifo.{Held}
 use Rattle.ready_queues.specs.declared.hand.Hand.{Hand}
 use Rattle.ready_queues.specs.Hands.{unnamed}
 
@@ -42,12 +41,3 @@ IsUnnamed items hands = (items ≡ []) × (hands ≡ unnamed ∷ [])
 abbrev pub Keeps : List ℕ → List Hand → Type 0
 Keeps items hands = IsUnnamed items hands
     ⊎ ((owner : List ℕ) × (number : ℕ) × IsQueue owner number items hands)
-
--- the queue of the hand held these numbers while the rule held
-abbrev pub Stood : Hand → List ℕ → Type 0
-Stood h items = (hands : List Hand) × (k : ℕ) × IsQueue h.owner h.number items hands
-    × (get_elem? hands k ≡ some h)
-
--- at one moment, when the way had this hand, the queue held n numbers
-abbrev pub HeldAt : ℕ → Hand → Type 0
-HeldAt n h = Held n (Stood h)

@@ -7,7 +7,6 @@ use Rattle.ready_queues.specs.declared.way.Way.{Way}
 use Rattle.ready_queues.specs.ParkingRule.{taken_on}
 use Rattle.ready_queues.specs.Ends.{hand_of, wakes_of}
 use Rattle.ready_queues.specs.Hands.{with_received}
-use Rattle.ready_queues.specs.QueueRule.{HeldAt}
 
 -- no end has pushed, received or given a token since
 pub record IsSameEnd (a b : End) : Type 0 where
@@ -26,10 +25,6 @@ pub record HasReceivedAt (number node l : ℕ) (a b : End) : Type 0 where
 abbrev pub HasReceived : ℕ → ℕ → List End → List End → Type 0
 HasReceived number node old new = (l : ℕ) (a b : End) → slice_get old l ≡ Some a
     → slice_get new l ≡ Some b → HasReceivedAt number node l a b
-
--- at one moment the queue of the loop was empty, when the way had done with it what it has done now
-abbrev pub WasEmpty : ℕ → List End → Type 0
-WasEmpty number ends = (e : End) → slice_get ends number ≡ Some e → HeldAt 0 (hand_of e)
 
 -- the way is still that of its thread, and has given and taken no token since
 pub record IsSameThread (a b : Way) : Type 0 where

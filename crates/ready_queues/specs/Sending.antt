@@ -10,7 +10,7 @@ use Rattle.ready_queues.specs.declared.end.End.{End}
 use Rattle.ready_queues.specs.declared.way.Way.{Way}
 use Rattle.ready_queues.specs.Ends.{hand_of, wakes_of}
 use Rattle.ready_queues.specs.ParkingRule.{given_on}
-use Rattle.ready_queues.specs.QueueRule.{IsNodeOf, IsHandOf, HeldAt}
+use Rattle.ready_queues.specs.QueueRule.{IsNodeOf}
 
 -- whether a node is one of the loop, and whether it is in the set too
 abbrev pub is_of : List ℕ → ℕ → ℕ → Bool
@@ -23,7 +23,7 @@ is_bound owner woke number node = eqb (bit_at woke node) 1 && is_of owner number
 abbrev pub bound_below : ℕ → List ℕ → ℕ → ℕ → List ℕ
 bound_below n owner woke number = filter (is_bound owner woke number) (range_with_len 0 n)
 
--- those of them whose push did not find the queue full
+-- those of them that were taken: whose bit the answer does not have
 abbrev pub taken_in : ℕ → List ℕ → ℕ → ℕ → ℕ → List ℕ
 taken_in n owner woke full number =
     filter (λ x. not (eqb (bit_at full x) 1)) (bound_below n owner woke number)
@@ -35,7 +35,7 @@ pushed_on h nodes = record h { pushed = h.pushed ++ nodes }
 abbrev pub wakes_for : ℕ → ℕ → ℕ → ℕ
 wakes_for spared number n = cond (eqb number spared) 0 n
 
--- the end of a loop before and after one node was sent, which found the queue full or not
+-- the end of a loop before and after one node was sent, which came back or was taken
 pub record HasSentNode (owner : List ℕ) (spared node : ℕ) (full : Bool) (number : ℕ)
     (a b : End) : Type 0 where
   pub hand : hand_of b ≡ pushed_on (hand_of a)
@@ -58,20 +58,16 @@ abbrev pub HaveSent : List ℕ → ℕ → ℕ → ℕ → ℕ → List End → 
 HaveSent owner spared woke full n old new = (l : ℕ) (a b : End) → slice_get old l ≡ Some a
     → slice_get new l ≡ Some b → HasSentTo owner spared woke full n l a b
 
--- at one moment the queue of the loop held 64 numbers
-abbrev pub WasFull : List ℕ → ℕ → Type 0
-WasFull owner number = (h : Hand) × IsHandOf owner number h × HeldAt 64 h
+-- the node is one of a loop, of so many
+abbrev pub IsALoops : List ℕ → ℕ → ℕ → Type 0
+IsALoops owner loops node = (number : ℕ) × (number < loops) × IsNodeOf owner number node
 
--- the node was pushed into the queue of its loop, one of `loops`, and found it full
-abbrev pub FoundFull : List ℕ → ℕ → ℕ → Type 0
-FoundFull owner loops node = (number : ℕ) × (number < loops) × IsNodeOf owner number node
-    × WasFull owner number
-
+-- a node that may come back: it was to be sent, to a loop
 abbrev pub IsRefused : List ℕ → ℕ → ℕ → ℕ → Type 0
-IsRefused owner loops woke node = (bit_at woke node ≡ 1) × FoundFull owner loops node
+IsRefused owner loops woke node = (bit_at woke node ≡ 1) × IsALoops owner loops node
 
 -- the nodes of the set were sent, no loop was spared, and the driver's thread was unparked; `full`
--- has the bits of those that found their queue full
+-- has the bits of those that came back and were not pushed
 pub record HasSent (owner : List ℕ) (loops woke full : ℕ) (a b : Way) : Type 0 where
   pub number : b.number ≡ a.number
   pub own : parker_view b.own ≡ parker_view a.own

@@ -66,7 +66,7 @@ impl Split<Hand> for Dealing {
     ghost right = { λ h. hand h.owner h.number [] [] };
 }
 
-/// A number was pushed, or the queue was full.
+/// A number was pushed, or the queue was full: of a push that was refused no pass keeps a trace.
 pub(crate) struct Pushes;
 
 impl Outcome<u32, Hand> for Pushes {
@@ -77,12 +77,12 @@ impl Outcome<u32, Hand> for Pushes {
 }
 
 impl Lesson<u32, Hand> for Pushes {
-    ghost use Rattle.ready_queues.specs.QueueRule.{Stood};
+    ghost use Rattle.std.specs.Prelude.{⊤};
 
-    ghost fact = { Stood };
+    ghost fact = { λ _ _. ⊤ };
 }
 
-/// A number was popped, or the queue was empty.
+/// A number was popped, or the queue was empty: of a pop that found nothing no pass keeps a trace.
 pub(crate) struct Pops;
 
 impl Outcome<u32, Hand> for Pops {
@@ -94,7 +94,7 @@ impl Outcome<u32, Hand> for Pops {
 }
 
 impl Lesson<u32, Hand> for Pops {
-    ghost use Rattle.ready_queues.specs.QueueRule.{Stood};
+    ghost use Rattle.std.specs.Prelude.{⊤};
 
-    ghost fact = { Stood };
+    ghost fact = { λ _ _. ⊤ };
 }

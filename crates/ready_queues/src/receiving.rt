@@ -4,7 +4,7 @@ ghost use Rattle.std.specs.Prelude.{IfSome, IfNone};
 ghost use Rattle.ready_queues.specs.AnsweredWith.{IsWayOf};
 ghost use Rattle.ready_queues.specs.Ends.{AreEndsOf, received_by};
 ghost use Rattle.ready_queues.specs.QueueRule.{IsNodeOf};
-ghost use Rattle.ready_queues.specs.Receiving.{HasReceived, WasEmpty, AreSameEnds, IsSameThread};
+ghost use Rattle.ready_queues.specs.Receiving.{HasReceived, AreSameEnds, IsSameThread};
 ghost use Rattle.ready_queues.specs.Receiving.{HasRested};
 ghost use Rattle.ready_queues.specs.Looking.{IsInVain, spins_limit};
 
@@ -31,17 +31,16 @@ impl Ways {
         ensures ends { AreEndsOf self.now.owner self.now.lanes ends.new }
         ensures node { IfSome result (λ x. IsNodeOf self.now.owner number x) }
         ensures some { IfSome result (λ x. HasReceived number x ends.old ends.new) }
-        ensures none { IfNone result (AreSameEnds ends.old ends.new × WasEmpty number ends.new) }
+        ensures none { IfNone result (AreSameEnds ends.old ends.new) }
         ensures count { received_by ends.new ≡ received_by ends.old + cond (is_some result) 1 0 }
     {
         let lane = &self.lanes.as_slice()[number];
         lane.queue.pop_as::<Pops, R>(rt, &mut ends[number].pass)
     }
 
-    /// Takes the oldest number out of the queue of the way's own loop. None where the queue was
-    /// empty at the step of this call: the clause says that it was empty at one moment, and that
-    /// this was the moment of the call no clause can say, so it is tested. May wait for another
-    /// thread that is in the middle of a push or a pop; takes no memory.
+    /// Takes the oldest number out of the queue of the way's own loop. None only where the queue is
+    /// empty: that is tested. May wait for another thread that is in the middle of a push or a pop;
+    /// takes no memory.
     /// Condition: a loop's way, which was answered with these ways.
     pub fn receive<R: Wait>(&self, rt: &R, way: &mut Way) -> Option<u32>
         requires answered { IsWayOf self.now way.old }
@@ -52,8 +51,8 @@ impl Ways {
         ensures node { IfSome result (λ x. IsNodeOf self.now.owner way.old.number x) }
         ensures some { IfSome result (λ x.
             HasReceived way.old.number x way.old.ends.items way.new.ends.items) }
-        ensures none { IfNone result (AreSameEnds way.old.ends.items way.new.ends.items
-            × WasEmpty way.old.number way.new.ends.items) }
+        // No end has pushed or received since: no number is lost.
+        ensures none { IfNone result (AreSameEnds way.old.ends.items way.new.ends.items) }
     {
         let number = way.number as usize;
         let node = self.pop(rt, way.ends.as_mut_slice(), number);

@@ -5,7 +5,7 @@ ghost use Rattle.crossbeam_queue.specs.Passes.{ruled_capacity};
 ghost use Rattle.ready_queues.specs.AnsweredWith.{IsWayOf};
 ghost use Rattle.ready_queues.specs.Ends.{AreEndsOf, IsEndOf, hand_of, wakes_of, received_by};
 ghost use Rattle.ready_queues.specs.QueueRule.{IsNodeOf};
-ghost use Rattle.ready_queues.specs.Sending.{AreSentNode, HaveSent, IsRefused, FoundFull, WasFull, pushed_on};
+ghost use Rattle.ready_queues.specs.Sending.{AreSentNode, HaveSent, IsALoops, IsRefused, pushed_on};
 ghost use Rattle.ready_queues.specs.ParkingRule.{given_on};
 ghost use Rattle.ready_queues.specs.Sending.{is_of, HasSent};
 ghost use Rattle.ready_queues.specs.Receiving.{IsSameThread};
@@ -21,7 +21,7 @@ use std::sync::Wait;
 
 impl End {
     // One push of a node into the queue of its loop. That loop is unparked, if it shall be. Whether
-    // the queue was full.
+    // the node came back, as it does where the queue is full: then it was not pushed.
     fn push<R: Wait>(&mut self, rt: &R, lane: &Lane, node: u32, unparks: bool) -> bool
         requires end { IsEndOf (hand_of self.old).owner (hand_of self.old).number lane.now
             self.old }
@@ -31,8 +31,6 @@ impl End {
         ensures hand { hand_of self.new
             ≡ pushed_on (hand_of self.old) (cond result [] (node ∷ [])) }
         ensures wakes { wakes_of self.new ≡ given_on (wakes_of self.old) (cond unparks 1 0) }
-        ensures full { IsTrue result
-            → WasFull (hand_of self.old).owner (hand_of self.old).number }
     {
         let full = lane
             .queue
@@ -64,13 +62,13 @@ impl Ways {
     }
 
     // One node is sent, if it is not the driver's own. Its loop is unparked, if it is not the
-    // spared one. Whether the node found the queue full.
+    // spared one. Whether the node came back.
     fn send_node<R: Wait>(&self, rt: &R, ends: &mut [End], node: usize, spared: u32) -> bool
         requires ends { AreEndsOf self.now.owner self.now.lanes ends.old }
         requires inside { node < length self.now.owner }
         ensures ends { AreEndsOf self.now.owner self.now.lanes ends.new }
         ensures sent { AreSentNode self.now.owner spared node result ends.old ends.new }
-        ensures full { IsTrue result → FoundFull self.now.owner self.now.loops node }
+        ensures full { IsTrue result → IsALoops self.now.owner self.now.loops node }
         ensures count { received_by ends.new ≡ received_by ends.old }
     {
         match self.loop_of(node) {
@@ -83,7 +81,7 @@ impl Ways {
     }
 
     // All nodes of a set are sent, ascending, and each of their loops but the spared one is
-    // unparked. The bits of those that found their queue full.
+    // unparked. The bits of those that came back.
     fn send_all<R: Wait>(&self, rt: &R, ends: &mut [End], woke: u64, spared: u32) -> u64
         requires ends { AreEndsOf self.now.owner self.now.lanes ends.old }
         ensures ends { AreEndsOf self.now.owner self.now.lanes ends.new }
@@ -118,10 +116,9 @@ impl Ways {
     /// For each node of a set that is not the driver's own, ascending, makes one push into the
     /// queue of that node's loop and unparks that loop. Afterwards it unparks the driver's thread,
     /// also where it made no push. Bit n of the set is node n; a bit that is no node of `owner`, as
-    /// 63, is the driver's own. The answer has exactly the bits of the nodes whose push in this
-    /// call found 64 numbers in the queue; of each other such node the way knows one push more. The
-    /// clause says that the queue held 64 numbers at one moment; that this was the moment of the
-    /// push no clause can say, and is tested.
+    /// 63, is the driver's own. The answer has the bits of the nodes that came back, each a node of
+    /// the set and of a loop, and not pushed; of each other such node the way knows one push more.
+    /// A node comes back where its queue holds 64 numbers at the push: that is tested.
     ///
     /// May wait for another thread that is in the middle of a push or a pop. Takes no memory; cost:
     /// for each push a few atomic steps, and a call of the system for each thread that sleeps.

@@ -1,5 +1,5 @@
-use Rattle.ready_queues.proofs.QueueLemmas.{may_push, learns}
+use Rattle.ready_queues.proofs.QueueLemmas.{may_push}
 use Rattle.ready_queues.proofs.end.End.push.Goals as goal
 
 pub push_as-requires-clause-rule : goal.push_as-requires-clause-rule
-push_as-requires-clause-rule g c = let named = c.requires.end.hand.0 in (may_push _ _ _ c.args.node named c.requires.node, learns _ _ named)
+push_as-requires-clause-rule g c = let named = c.requires.end.hand.0 in (may_push _ _ _ c.args.node named c.requires.node, λ _ _ _ _. tt)

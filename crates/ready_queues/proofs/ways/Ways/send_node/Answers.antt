@@ -1,6 +1,4 @@
-use Rattle.std.proofs.Common.{◌∙◌, arith, subst, ℕ, List}
-use Rattle.ready_queues.specs.Sending.{WasFull}
-use Rattle.ready_queues.proofs.EndLemmas.{end_at}
+use Rattle.std.proofs.Common.{◌∙◌, arith}
 use Rattle.ready_queues.proofs.SendLemmas.{node_sent, none_sent, node_count}
 use Rattle.ready_queues.proofs.ways.Ways.send_node.Goals as goal
 
@@ -9,9 +7,7 @@ returns-in-Some-clause-sent g c = node_sent c.args.self.now.owner c.args.spared 
     c.in-Some.ensures.some.1 c.push.ensures.hand c.push.ensures.wakes
 
 pub returns-in-Some-clause-full : goal.returns-in-Some-clause-full
-returns-in-Some-clause-full g c = λ yes. let n = c.args.self.now.count in let s = c.in-Some.ensures.some in
-    let e = (end_at _ _ _ c.requires.ends c.in-Some.number c.index-as_slice-number.result c.index-ends-number.result (omega arith)).hand in
-    (c.in-Some.number, s.0, s.1, subst (λ (p : List ℕ × ℕ). WasFull p.0 p.1) (λ i. (e.1 i, e.2 i)) (c.push.ensures.full yes))
+returns-in-Some-clause-full g c = λ _. let s = c.in-Some.ensures.some in (c.in-Some.number, s.0, s.1)
 
 pub returns-in-Some-clause-count : goal.returns-in-Some-clause-count
 returns-in-Some-clause-count g c = let n = c.args.self.now.count in let m = c.requires.ends.count in let s = c.in-Some.ensures.some.0 in
