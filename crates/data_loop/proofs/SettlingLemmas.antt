@@ -149,7 +149,7 @@ settled_after p t s u w on a b = record {
 }
 
 -- an idle turn that found no try too early, by the number of its tries
-nothing : (l : List (ℕ × ℕ)) → length l ≡ 0 → l ≡ []
+pub nothing : (l : List (ℕ × ℕ)) → length l ≡ 0 → l ≡ []
 nothing [] none = refl
 nothing (x ∷ l) none = absurd (omega (arith, none))
 

@@ -2,6 +2,8 @@
 pub mod Inputs
 pub mod Giving
 pub mod PassingOn
+pub mod Rounds
+pub mod Courses
 pub mod ReadingInputs
 pub mod Standings
 pub mod Writing

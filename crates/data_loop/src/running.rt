@@ -8,6 +8,8 @@ ghost use Rattle.ready_queues.specs.AnsweredWith.{IsWayOf};
 ghost use Rattle.data_loop.specs.LoopTries.{HasTurnedAt, HasWoken};
 ghost use Rattle.data_loop.specs.LoopWay.{HasNoDriver, IsUnderWay, IsSameLoop, IsWayFor, RestsAtMost};
 ghost use Rattle.data_loop.specs.working.PassingOn.{PassesOn, HasTriedAll};
+ghost use Rattle.data_loop.specs.working.Rounds.{IsRound, HasMadeRounds};
+ghost use Rattle.data_loop.specs.working.Courses.{HasGoneThrough, HasRunAll};
 ghost use Rattle.data_loop.specs.Settling.{HasHadTurns, HasSettled};
 
 use crate::did::Did;
@@ -104,7 +106,7 @@ fn try_all<R: Wait, G: Gate>(
     }
 }
 
-// One round on the board of the loop's epoch: of the oldest number in its queue, or where there is
+// One round on the board of the loop's epoch: of the number that its queue gives, or where it gives
 // none of all followers. Whether it found that no follower has cycles left.
 fn go_once<R: Wait, G: Gate>(
     rt: &R,
@@ -119,6 +121,8 @@ fn go_once<R: Wait, G: Gate>(
     ensures turned { HasHadTurns (layout board.now) (table_of board.now) state.old state.new }
     ensures settled { IsTrue result
         → HasSettled (layout board.now) (table_of board.now) state.old state.new }
+    ensures round { IsRound result (layout board.now) ways.now state.old way.old
+        state.new way.new }
     ensures way { IsWayFor ways.now state.new way.new }
 {
     match ways.receive(rt, way) {
@@ -142,6 +146,8 @@ fn go_round<R: Wait, G: Gate>(
     requires stands { IsOnBoard (layout board.now) (table_of board.now) state.old }
     requires way { IsWayFor ways.now state.old way.old }
     ensures settled { HasSettled (layout board.now) (table_of board.now) state.old state.new }
+    ensures rounds { HasMadeRounds (layout board.now) ways.now state.old way.old
+        state.new way.new }
     ensures way { IsWayFor ways.now state.new way.new }
 {
     for _ in rt.forever() {
@@ -167,6 +173,7 @@ fn go_through<R: Wait, G: Gate>(
     ensures under_way { IsUnderWay boards.now state.new }
     ensures same { IsSameLoop state.old state.new }
     ensures next { state.new.epoch ≡ state.old.epoch + 1 }
+    ensures through { HasGoneThrough boards.now ways.now state.old way.old state.new way.new }
     ensures way { IsWayFor ways.now state.new way.new }
 {
     let board = &boards.as_slice()[state.epoch() as usize];
@@ -177,6 +184,11 @@ fn go_through<R: Wait, G: Gate>(
 /// Turns until all epochs are done: numbers that its queue gives are tried first, and where there
 /// are none all followers; where no node is awake, the thread rests, unless its loop is called
 /// within some microseconds. It may wait. Takes no memory.
+///
+/// In each epoch the loop goes in rounds. Either its queue gave a number: then the node of that
+/// very number was tried, and what it woke was passed on. Or the queue gave none: then all
+/// followers were tried in one turn, and what it woke was passed on; only after such a turn, in
+/// which no node was awake and some had cycles left, may the thread have rested.
 /// Condition: there is one board an epoch, in order, on which the loop has its seats; none of its
 /// nodes drives; the way is that of a loop whose nodes are those of the state.
 pub fn run_all<R: Wait, G: Gate>(
@@ -193,6 +205,7 @@ pub fn run_all<R: Wait, G: Gate>(
     ensures done { IsDone result.0 }
     ensures under_way { IsUnderWay boards.now result.0 }
     ensures same { IsSameLoop state result.0 }
+    ensures gone { HasRunAll boards.now ways.now state way result.0 result.1 }
     ensures way { IsWayFor ways.now result.0 result.1 }
 {
     let mut state = state;

@@ -2,7 +2,7 @@
 -- where no node was awake.
 -- Source: PipeWire's documentation, "Graph Scheduling" and "Data loops"; that what is woken goes
 -- through queues is this project's own.
-use Rattle.std.specs.Prelude.{◌≡◌, ◌⊎◌, ℕ, Bool, true, false}
+use Rattle.std.specs.Prelude.{◌≡◌, ◌≢◌, ◌⊎◌, ℕ, Bool, true, false, []}
 use Rattle.board_rule.specs.Layout.{BoardLayout}
 use Rattle.ready_queues.specs.declared.way.Way.{Way}
 use Rattle.ready_queues.specs.declared.ways.Ways.{Ways}
@@ -28,12 +28,14 @@ abbrev pub HasRunOne : BoardLayout → Ways → LoopState → Way → LoopState 
 HasRunOne p ways s a t b = (node : ℕ) × HasTurnedOnce p s (Ran node) t × HasWoken (Ran node) t
     × Forwards ways t.woke a b
 
--- in which no node was awake; the thread may have rested after it
+-- in which no node was awake, and some that have cycles left were too early; the thread may have
+-- rested after it
 abbrev pub HasRunNone : BoardLayout → LoopState → Way → LoopState → Way → Type 0
-HasRunNone p s a t b = HasTurnedOnce p s Idle t × RestsAtMost a b
+HasRunNone p s a t b = HasTurnedOnce p s Idle t × (t.found.items ≢ []) × RestsAtMost a b
 
--- ONE TURN, whose answer is whether no follower has cycles left: then there was no rest
+-- ONE TURN, whose answer is whether no follower has cycles left: then none was tried, and there was
+-- no rest
 abbrev pub HasTriedAll : Bool → BoardLayout → Ways → LoopState → Way → LoopState → Way
     → Type 0
-HasTriedAll true p ways s a t b = HasTurnedOnce p s Idle t × (b ≡ a)
+HasTriedAll true p ways s a t b = HasTurnedOnce p s Idle t × (t.found.items ≡ []) × (b ≡ a)
 HasTriedAll false p ways s a t b = HasRunOne p ways s a t b ⊎ HasRunNone p s a t b

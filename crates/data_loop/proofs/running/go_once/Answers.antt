@@ -1,4 +1,4 @@
-use Rattle.std.proofs.Common.{refl}
+use Rattle.std.proofs.Common.{refl, inl, inr}
 use Rattle.data_loop.proofs.RunningLemmas.{way_on}
 use Rattle.data_loop.proofs.running.go_once.Goals as goal
 
@@ -9,3 +9,33 @@ try_given-did-requires-clause-way g c = way_on c.args.ways.now c.args.state.now 
 pub try_all-requires-clause-way : goal.try_all-requires-clause-way
 try_all-requires-clause-way g c = way_on c.args.ways.now c.args.state.now c.args.state.now c.args.way.now c.receive.new.way refl
     c.receive.ensures.thread.number c.receive.ensures.answered c.requires.way
+
+-- a number was received, and tried
+pub returns-in-Some-clause-round : goal.returns-in-Some-clause-round
+returns-in-Some-clause-round g c = inl (
+  refl,
+  record {
+    node = c.in-Some.node;
+    did = c.try_given-did.result;
+    way = c.receive.new.way;
+    received = record {
+      thread = c.receive.ensures.thread;
+      own = c.in-Some.ensures.node;
+      received = c.in-Some.ensures.some;
+    };
+    turned = c.try_given-did.ensures.did;
+    woken = c.try_given-did.ensures.woken;
+    passed = c.try_given-did.ensures.passed;
+  },
+)
+
+-- nothing was received, and all were tried
+pub returns-in-None-clause-round : goal.returns-in-None-clause-round
+returns-in-None-clause-round g c = inr record {
+  way = c.receive.new.way;
+  received = record {
+    thread = c.receive.ensures.thread;
+    same = c.in-None.ensures.none;
+  };
+  tried = c.try_all.ensures.tried;
+}

@@ -1,9 +1,10 @@
-use Rattle.std.proofs.Common.{true≢false, sym, subst}
+use Rattle.std.proofs.Common.{[], ◌∷◌, true≢false, sym, subst}
 use Rattle.board_rule.specs.OnBoard.{layout, table_of}
 use Rattle.ready_queues.specs.declared.way.Way.{Way}
 use Rattle.data_loop.specs.declared.loop_state.LoopState.{LoopState}
 use Rattle.data_loop.specs.LoopWay.{IsWayFor}
 use Rattle.data_loop.specs.Settling.{HasSettled}
+use Rattle.data_loop.specs.working.Rounds.{HasMadeRounds}
 use Rattle.data_loop.proofs.SettlingLemmas.{no_turns, more_turns, settled_after}
 use Rattle.data_loop.proofs.running.go_round.Goals.{in-None, in-Some+then-go_once}
 use Rattle.data_loop.proofs.running.go_round.Goals as goal
@@ -13,6 +14,7 @@ loop-init g c = record {
   can_next = tt;
   finite = tt;
   turned = no_turns (layout c.args.board.now) (table_of c.args.board.now) c.args.state.now c.requires.stands;
+  rounds = λ t b gone. gone;
   way = c.requires.way;
 }
 
@@ -22,6 +24,7 @@ loop-preserved g c = record {
   finite = tt;
   turned = more_turns (layout c.args.board.now) (table_of c.args.board.now) c.args.state.now c.loop.state c.go_once.new.state c.loop.invariant.turned
       c.go_once.ensures.turned;
+  rounds = λ t b gone. c.loop.invariant.rounds t b ((c.go_once.new.state, c.go_once.new.way) ∷ gone.0, (c.if-go_once.ensures.round, gone.1));
   way = c.go_once.ensures.way;
 }
 
@@ -39,4 +42,13 @@ returns-clause-way g c = elim c.match-next.branch [
   | in-None w ↦ absurd (true≢false (sym w.in-None.ensures.steps))
   | in-Some+then-go_once w ↦ subst (λ (x : LoopState × Way). IsWayFor c.args.ways.now x.0 x.1) (λ i. (sym w.state-is i, sym w.way'-is i))
       w.go_once.ensures.way
+]
+
+pub returns-clause-rounds : goal.returns-clause-rounds
+returns-clause-rounds g c = elim c.match-next.branch [
+  | in-None w ↦ absurd (true≢false (sym w.in-None.ensures.steps))
+  | in-Some+then-go_once w ↦
+      subst (λ (x : LoopState × Way). HasMadeRounds (layout c.args.board.now) c.args.ways.now c.args.state.now c.args.way.now x.0 x.1)
+      (λ i. (sym w.state-is i, sym w.way'-is i))
+      (c.loop.invariant.rounds w.go_once.new.state w.go_once.new.way ([], w.if-go_once.ensures.round))
 ]

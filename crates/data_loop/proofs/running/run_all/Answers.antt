@@ -1,7 +1,7 @@
-use Rattle.std.proofs.Common.{◌≡◌, ◌<◌, ◌-◌, length, ap, sym, ◌∙◌, true≢false, arith}
+use Rattle.std.proofs.Common.{◌≡◌, ◌<◌, ◌-◌, [], ◌∷◌, length, refl, ap, sym, ◌∙◌, true≢false, arith}
 use Rattle.node_progress.specs.declared.run_model.RunModel.{RunModel}
 use Rattle.data_loop.specs.Loops.{plan_of}
-use Rattle.data_loop.proofs.RunningLemmas.{left, done}
+use Rattle.data_loop.proofs.RunningLemmas.{left, done, same_loop_refl, same_loop_on, none_on}
 use Rattle.data_loop.proofs.running.run_all.Goals as goal
 
 pub go_through-requires-clause-left : goal.go_through-requires-clause-left
@@ -17,3 +17,25 @@ loop-state-smaller g c = let s = c.loop-state.state in let t = c.go_through.new.
 
 pub returns-clause-done : goal.returns-clause-done
 returns-clause-done g c = done c.args.boards.now c.loop-state.state c.loop-state.invariant.under_way (c.at_end.ensures.0 c.loop-state-test.false)
+
+pub loop-state-init : goal.loop-state-init
+loop-state-init g c = record {
+  under_way = c.requires.under_way;
+  same = same_loop_refl c.args.state;
+  none = c.requires.none;
+  gone = λ t b on. on;
+  way = c.requires.way;
+}
+
+pub loop-state-preserved : goal.loop-state-preserved
+loop-state-preserved g c = let i = c.loop-state.invariant in let e = c.go_through.ensures in
+    let s = c.loop-state.state in let t = c.go_through.new.state in record {
+      under_way = e.under_way;
+      same = same_loop_on c.args.state s t i.same e.same;
+      none = none_on s t e.same i.none;
+      gone = λ u b on. i.gone u b ((t, c.go_through.new.way) ∷ on.0, (e.through, on.1));
+      way = e.way;
+    }
+
+pub returns-clause-gone : goal.returns-clause-gone
+returns-clause-gone g c = c.loop-state.invariant.gone c.loop-state.state c.loop-state.way ([], (refl, refl))
