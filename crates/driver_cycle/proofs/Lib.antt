@@ -1,3 +1,4 @@
 pub mod LeadingLemmas
+pub mod RestLemmas
 pub mod SettlingLemmas
 pub mod ThreadLemmas

@@ -11,6 +11,7 @@ ghost use Rattle.driver_cycle.specs.Rounds.{BeginsNext, HasLooked};
 ghost use Rattle.driver_cycle.specs.Settling.{HasSettled, AreEach};
 ghost use Rattle.driver_cycle.specs.Epochs.{IsThread, HasGoneOn, HasGoneRound};
 ghost use Rattle.driver_cycle.specs.Waking.{SendsBegun};
+ghost use Rattle.driver_cycle.specs.Resting.{EndsRound};
 
 use crate::leading::lead_once;
 use crate::rounds::begin_next;
@@ -42,6 +43,9 @@ fn go_round<R: Wait, G: Gate, K: Ticker>(
         seat.new own.new adopted.new (K.ticks ticker.new) }
     ensures round { HasGoneRound result (layout at.now.board.now) seat.old.knows checked.new
         seat.new.knows }
+    // The thread rests only where nothing was done, and then where another thread has a loop.
+    ensures rest { EndsRound result (layout at.now.board.now) at.now.ways.now.loops own.old
+        adopted.old adopted.new way.old way.new }
     ensures way { IsDriverWay at.now.ways.now way.new }
 {
     let own_ran = turn_one(at.rt, at.board, own, at.ways, way, at.gate);

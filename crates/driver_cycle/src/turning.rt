@@ -1,10 +1,11 @@
 //! Turns of the loops of the driver's thread, after which what they woke is sent.
-ghost use Rattle.std.specs.Prelude.{◌≡◌, All, false};
+ghost use Rattle.std.specs.Prelude.{◌≡◌, All, true, false};
 ghost use Rattle.board_rule.specs.OnBoard.{layout, table_of};
 ghost use Rattle.data_loop.specs.LoopWay.{IsDriverWay};
 ghost use Rattle.data_loop.specs.LoopsOnBoards.{IsOnBoard};
 ghost use Rattle.driver_cycle.specs.Settling.{HasHadTurns, AreEach};
 ghost use Rattle.driver_cycle.specs.Waking.{HasTakenTurn, HasTurnedIdle};
+ghost use Rattle.driver_cycle.specs.Resting.{HasNotRested, HasOneRan};
 
 use crate::site::Site;
 use crate::waking::send_woken;
@@ -56,7 +57,9 @@ pub(crate) fn turn_all<R: Wait, G: Gate>(
         states.old states.new }
     ensures idle { result ≡ false
         → AreEach (HasTurnedIdle (layout at.now.board.now)) states.old states.new }
+    ensures ran { result ≡ true → HasOneRan (layout at.now.board.now) states.old states.new }
     ensures quiet { result ≡ false → way.new ≡ way.old }
+    ensures still { HasNotRested way.old way.new }
     ensures way { IsDriverWay at.now.ways.now way.new }
 {
     let mut ran = false;

@@ -1,5 +1,6 @@
 use Rattle.std.proofs.Common.{refl}
 use Rattle.board_rule.specs.OnBoard.{layout, table_of}
+use Rattle.driver_cycle.proofs.RestLemmas.{ends_round}
 use Rattle.driver_cycle.proofs.ThreadLemmas.{led_so_far_same, gone_round}
 use Rattle.driver_cycle.proofs.epoch.go_round.Goals as goal
 
@@ -13,3 +14,10 @@ returns-clause-gone g c = let e = c.lead_once-ended.ensures in
     gone_round c.args.at.now.board.now c.args.seat.now c.lead_once-ended.new.seat c.args.own.now c.turn_one-own_ran.new.state c.lead_once-ended.new.own c.args.adopted.now
     c.turn_all-another_ran.new.states (g.K.Ticker.ticks c.args.ticker.now) (g.K.Ticker.ticks c.lead_once-ended.new.ticker) c.requires.thread
     c.turn_one-own_ran.ensures.turned c.turn_all-another_ran.ensures.turned e.leads e.stands e.same e.led_so_far e.looked
+
+pub returns-clause-rest : goal.returns-clause-rest
+returns-clause-rest g c = let all = c.turn_all-another_ran.ensures in let e = c.rest_unless.ensures in
+    ends_round (layout c.args.at.now.board.now) c.args.at.now.ways.now c.args.own.now c.turn_one-own_ran.new.state c.args.adopted.now
+    c.turn_all-another_ran.new.states c.args.way.now c.turn_one-own_ran.new.way c.turn_all-another_ran.new.way c.rest_unless.new.way
+    c.turn_one-own_ran.result c.turn_all-another_ran.result c.lead_once-ended.result c.turn_one-own_ran.ensures.took all.ran all.idle all.quiet all.still
+    e.rested e.done e.alone

@@ -1,4 +1,4 @@
-use Rattle.std.proofs.Common.{◌≡◌, ◌<◌, Bool, false, length, get_or, sym, ◌∙◌, subst, arith}
+use Rattle.std.proofs.Common.{◌≡◌, ◌+◌, ◌<◌, Bool, false, length, get_or, set, sym, ◌∙◌, subst, arith}
 use Rattle.std.proofs.lemmas.List.{get_or_default}
 use Rattle.board_rule.specs.OnBoard.{layout, table_of}
 use Rattle.data_loop.specs.declared.loop_state.LoopState.{LoopState}
@@ -6,7 +6,9 @@ use Rattle.data_loop.specs.LoopsOnBoards.{IsOnBoard}
 use Rattle.driver_cycle.specs.Settling.{HasHadTurns}
 use Rattle.driver_cycle.specs.Waking.{HasTakenTurn, HasTurnedIdle}
 use Rattle.driver_cycle.proofs.SettlingLemmas.{one_more, all_below}
+use Rattle.driver_cycle.specs.Resting.{HasTurnedRan}
 use Rattle.driver_cycle.proofs.ThreadLemmas.{neither}
+use Rattle.driver_cycle.proofs.RestLemmas.{HasOneRanBelow, turn_still, turn_ran, either, kept_ran, new_ran, one_ran}
 use Rattle.driver_cycle.proofs.turning.turn_all.Goals as goal
 
 pub turn_one-ran-requires-clause-stands : goal.turn_one-ran-requires-clause-stands
@@ -32,7 +34,14 @@ loop-k-preserved g c = let p = layout c.args.at.now.board.now in let t = table_o
       idle = λ e. let none = neither c.loop-k.ran c.turn_one-ran.result e in
           one_more (HasTurnedIdle p) c.args.states.now k c.loop-k.states now inside (c.loop-k.invariant.idle none.0)
           (λ d. subst (λ (x : LoopState). HasTurnedIdle p x now) (was d) (idle none.1).0);
+      ran = λ e. either c.loop-k.ran c.turn_one-ran.result (HasOneRanBelow p (k + 1) c.args.states.now (set c.loop-k.states k now)) e
+          (λ earlier. kept_ran p k c.args.states.now c.loop-k.states now (c.loop-k.invariant.ran earlier))
+          (λ here_ran. new_ran p k c.args.states.now c.loop-k.states now inside (omega (arith, low, end))
+          (λ d. subst (λ (x : LoopState). HasTurnedRan p x now) (was d)
+          (turn_ran p c.args.at.now.ways.now here c.loop-k.way now c.turn_one-ran.new.way c.turn_one-ran.result here_ran c.turn_one-ran.ensures.took)));
       quiet = λ e. let none = neither c.loop-k.ran c.turn_one-ran.result e in (idle none.1).2 ∙ c.loop-k.invariant.quiet none.0;
+      still = turn_still p c.args.at.now.ways.now here c.loop-k.way now c.turn_one-ran.new.way c.turn_one-ran.result c.turn_one-ran.ensures.took
+          ∙ c.loop-k.invariant.still;
       way = c.turn_one-ran.ensures.way;
     }
 
@@ -40,3 +49,6 @@ pub returns-clause-idle : goal.returns-clause-idle
 returns-clause-idle g c = let past = c.loop-k-test.false in let end = c.loop-k.invariant.end in let n = c.loop-k.invariant.turned.count in
     λ e. all_below (HasTurnedIdle (layout c.args.at.now.board.now)) c.args.states.now c.loop-k.k c.loop-k.states (omega (arith, past, end, n))
     (c.loop-k.invariant.idle e)
+
+pub returns-clause-ran : goal.returns-clause-ran
+returns-clause-ran g c = λ e. one_ran (layout c.args.at.now.board.now) c.loop-k.k c.args.states.now c.loop-k.states (c.loop-k.invariant.ran e)
