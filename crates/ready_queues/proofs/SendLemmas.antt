@@ -17,7 +17,7 @@ use native.Mathlib.Decide.{ℕ_discrete}
 use Rattle.ready_queues.proofs.EndLemmas.{related, some_is}
 use Rattle.ready_queues.specs.ParkingRule.{given_on}
 use Rattle.ready_queues.specs.QueueRule.{IsNodeOf}
-use Rattle.ready_queues.specs.Sending.{is_of, is_bound, bound_below, taken_in, pushed_on, wakes_for, HasSentNode, AreSentNode, HasSentTo, HaveSent, IsALoops, IsRefused}
+use Rattle.ready_queues.specs.Sending.{is_of, is_bound, bound_below, taken_in, pushed_on, wakes_for, HasSentNode, AreSentNode, HasSentTo, HaveSent, IsOfSomeLoop, IsRefused}
 
 range_snoc : (a n j : ℕ) → a + n ≡ j → range_with_len a (suc n) ≡ range_with_len a n ++ j ∷ []
 range_snoc a zero j e = let is : a ≡ j = omega arith in ap (λ k. k ∷ []) is
@@ -199,7 +199,7 @@ module _ (owner : List ℕ) (loops spared woke : ℕ) (old : List End) where
 
   pub goes_on : (rest full : ℕ) (ends : List End) (from n : ℕ) (rest' full' : ℕ) (f : Bool) (ends' : List End) → IsSentUntil owner loops spared woke old rest full ends from
       → n < length owner → bit_at rest n ≡ 1 → ((x : ℕ) → x < n → bit_at rest x ≡ 0) → length owner ≤ 63 → length ends ≡ length old
-      → bit_at full' n ≡ cond f 1 0 → ((x : ℕ) → x ≢ n → bit_at full' x ≡ bit_at full x) → AreSentNode owner spared n f ends ends' → (f ≡ true → IsALoops owner loops n)
+      → bit_at full' n ≡ cond f 1 0 → ((x : ℕ) → x ≢ n → bit_at full' x ≡ bit_at full x) → AreSentNode owner spared n f ends ends' → (f ≡ true → IsOfSomeLoop owner loops n)
       → bit_at rest' n ≡ 0 → ((x : ℕ) → x < 64 → x ≢ n → bit_at rest' x ≡ bit_at rest x) → IsSentUntil owner loops spared woke old rest' full' ends' (suc n)
   goes_on rest full ends from n rest' full' f ends' s low there first few count here others sent mine gone same =
       let after = not_yet rest full ends from n s there in let set : bit_at woke n ≡ 1 = sym (s.left n after low) ∙ there in

@@ -59,12 +59,12 @@ HaveSent owner spared woke full n old new = (l : ℕ) (a b : End) → slice_get 
     → slice_get new l ≡ Some b → HasSentTo owner spared woke full n l a b
 
 -- the node is one of a loop, of so many
-abbrev pub IsALoops : List ℕ → ℕ → ℕ → Type 0
-IsALoops owner loops node = (number : ℕ) × (number < loops) × IsNodeOf owner number node
+abbrev pub IsOfSomeLoop : List ℕ → ℕ → ℕ → Type 0
+IsOfSomeLoop owner loops node = (number : ℕ) × (number < loops) × IsNodeOf owner number node
 
 -- a node that may come back: it was to be sent, to a loop
 abbrev pub IsRefused : List ℕ → ℕ → ℕ → ℕ → Type 0
-IsRefused owner loops woke node = (bit_at woke node ≡ 1) × IsALoops owner loops node
+IsRefused owner loops woke node = (bit_at woke node ≡ 1) × IsOfSomeLoop owner loops node
 
 -- the nodes of the set were sent, no loop was spared, and the driver's thread was unparked; `full`
 -- has the bits of those that came back and were not pushed

@@ -5,7 +5,7 @@ ghost use Rattle.crossbeam_queue.specs.Passes.{ruled_capacity};
 ghost use Rattle.ready_queues.specs.AnsweredWith.{IsWayOf};
 ghost use Rattle.ready_queues.specs.Ends.{AreEndsOf, IsEndOf, hand_of, wakes_of, received_by};
 ghost use Rattle.ready_queues.specs.QueueRule.{IsNodeOf};
-ghost use Rattle.ready_queues.specs.Sending.{AreSentNode, HaveSent, IsALoops, IsRefused, pushed_on};
+ghost use Rattle.ready_queues.specs.Sending.{AreSentNode, HaveSent, IsOfSomeLoop, IsRefused, pushed_on};
 ghost use Rattle.ready_queues.specs.ParkingRule.{given_on};
 ghost use Rattle.ready_queues.specs.Sending.{is_of, HasSent};
 ghost use Rattle.ready_queues.specs.Receiving.{IsSameThread};
@@ -68,7 +68,7 @@ impl Ways {
         requires inside { node < length self.now.owner }
         ensures ends { AreEndsOf self.now.owner self.now.lanes ends.new }
         ensures sent { AreSentNode self.now.owner spared node result ends.old ends.new }
-        ensures full { IsTrue result → IsALoops self.now.owner self.now.loops node }
+        ensures full { IsTrue result → IsOfSomeLoop self.now.owner self.now.loops node }
         ensures count { received_by ends.new ≡ received_by ends.old }
     {
         match self.loop_of(node) {
