@@ -139,4 +139,5 @@ way_on ways s t a b same number answered h = record {
   answered = answered;
   one = subst (λ n. n < ways.loops) (sym number) h.one;
   nodes = subst (λ (x : List ℕ × ℕ). (n : ℕ) → slice_get ways.owner n ≡ Some x.1 → Contains x.0 n) (λ i. (sym same i, sym number i)) h.nodes;
+  owned = subst (λ (x : List ℕ × ℕ). (n : ℕ) → Contains x.0 n → slice_get ways.owner n ≡ Some x.1) (λ i. (sym same i, sym number i)) h.owned;
 }

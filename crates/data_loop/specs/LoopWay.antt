@@ -46,11 +46,12 @@ pub record IsSameLoop (s t : LoopState) : Type 0 where
   pub run_model : t.run_model ≡ s.run_model
   pub nodes : t.nodes ≡ s.nodes
 
--- the way to the queues of a loop whose nodes by `owner` are nodes of the state
+-- the way to the queues of a loop: by `owner` the loop has just the nodes of the state
 pub record IsWayFor (ways : Ways) (s : LoopState) (way : Way) : Type 0 where
   pub answered : IsWayOf ways way
   pub one : way.number < ways.loops
   pub nodes : (n : ℕ) → IsNodeOf ways.owner way.number n → Contains s.nodes n
+  pub owned : (n : ℕ) → Contains s.nodes n → IsNodeOf ways.owner way.number n
 
 -- a thread rested once, or not at all
 abbrev pub RestsAtMost : Way → Way → Type 0

@@ -23,7 +23,8 @@ use Rattle.graph_run.specs.LoopsOnPlan.{AreReady, AreFirstLeads}
 use Rattle.graph_run.specs.Seating.{nodes_of_loop}
 use Rattle.graph_run.specs.Threads.{CanRun, CanStart, CanDrive, HasNode}
 use Rattle.graph_run.proofs.AssignmentLemmas.{most_loop}
-use Rattle.graph_run.proofs.ReadyLemmas.{short, own_ready, own_has, own_is, others_ready, others_none, is_in}
+use Rattle.graph_run.proofs.LoopLemmas.{nodes_places}
+use Rattle.graph_run.proofs.ReadyLemmas.{short, own_ready, own_has, own_is, others_ready, others_none, has_loop, is_in}
 
 -- the loops of all nodes
 module _ (plan : Plan) (loops : ℕ) where
@@ -55,6 +56,19 @@ module _ (plan : Plan) (loops n k : ℕ) (of : IsNodeOf (owner_row plan loops) k
   pub owned_in : Contains (nodes_of_loop (loop_of plan loops) plan k) n
   owned_in = is_in (loop_of plan loops) plan k n owned_low owned_is
 
+-- and a node of a loop is one that the queues give to it
+module _ (plan : Plan) (loops n k : ℕ) (own : Contains (nodes_of_loop (loop_of plan loops) plan k) n) where
+  own_low : n < length plan.nodes
+  own_low = subst (λ m. m < length plan.nodes) own.2 (nodes_places (loop_of plan loops) plan k own.0 n own.1)
+
+  pub given : IsNodeOf (owner_row plan loops) k n
+  given = let low = own_low in let all = range_with_len 0 (length plan.nodes) in let long = length-range_with_len 0 (length plan.nodes) in
+      let row = owner_count plan loops in let at = get_or-range_with_len 0 (length plan.nodes) n 0 low in
+      let here : get_or all n 0 ≡ n = omega (arith, at) in
+      slice_get-get_or (owner_row plan loops) n 0 (omega (arith, low, row))
+      ∙ ap Some (get_or-map (loop_of plan loops) all n 0 0 (omega (arith, low, long))
+      ∙ (ap (loop_of plan loops) here ∙ has_loop (loop_of plan loops) plan k n own))
+
 module _ (plan : Plan) (waves : List WavIn) (loops : ℕ) (shared : Shared) (xs : List LoopState) (own : LoopState) (rows : List (List Known))
     (ready : AreReady shared.boards loops (xs ++ own ∷ [])) (are : AreLoopsOf plan waves (loop_of plan loops) rows (xs ++ own ∷ []))
     (plan_is : shared.run_model.plan.value ≡ plan) (waves_are : shared.run_model.waves.value ≡ waves)
@@ -70,6 +84,8 @@ module _ (plan : Plan) (waves : List WavIn) (loops : ℕ) (shared : Shared) (xs 
     one = omega (arith, number, less, count);
     nodes = λ n of. subst (λ (l : List ℕ). Contains l n) (sym nodes)
         (owned_in plan loops n i (subst (λ (x : List ℕ × ℕ). IsNodeOf x.0 x.1 n) (λ j. (owner j, number j)) of));
+    owned = λ n own. subst (λ (x : List ℕ × ℕ). IsNodeOf x.0 x.1 n) (λ j. (sym owner j, sym number j))
+        (given plan loops n i (subst (λ (l : List ℕ). Contains l n) nodes own));
   }
 
   module _ (others : List Way) (new : (k : ℕ) (w : Way) → slice_get others k ≡ Some w → IsNewWay shared.ways k w)

@@ -17,7 +17,7 @@ use Rattle.graph_run.specs.Assignment.{loop_of, owner_row}
 use Rattle.graph_run.specs.Loops.{AreLoopsOf}
 use Rattle.graph_run.specs.LoopsOnPlan.{IsReady, HasNoDriver, AreReady}
 use Rattle.graph_run.specs.Seating.{nodes_of_loop}
-use Rattle.graph_run.proofs.PrepareLemmas.{owned_in}
+use Rattle.graph_run.proofs.PrepareLemmas.{owned_in, given}
 use Rattle.graph_run.proofs.ReadyLemmas.{short, others_ready, others_none}
 use Rattle.soak_tests.specs.Threads.{CanStart}
 
@@ -35,6 +35,8 @@ module _ (plan : Plan) (waves : List WavIn) (loops : ℕ) (boards : List Board) 
     one = omega (arith, number, less, count);
     nodes = λ n of. subst (λ (l : List ℕ). Contains l n) (sym nodes)
         (owned_in plan loops n i (subst (λ (x : List ℕ × ℕ). IsNodeOf x.0 x.1 n) (λ j. (owner j, number j)) of));
+    owned = λ n own. subst (λ (x : List ℕ × ℕ). IsNodeOf x.0 x.1 n) (λ j. (sym owner j, sym number j))
+        (given plan loops n i (subst (λ (l : List ℕ). Contains l n) nodes own));
   }
 
   module _ (others : List Way) (new : (k : ℕ) (w : Way) → slice_get others k ≡ Some w → IsNewWay ways k w) (pairs : List (LoopState × Way))
