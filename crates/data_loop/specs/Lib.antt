@@ -19,4 +19,7 @@ pub mod LoopStart
 pub mod Driving
 pub mod LoopDriver
 pub mod LoopKept
+pub mod PassingOn
+pub mod Rounds
+pub mod Courses
 pub mod working

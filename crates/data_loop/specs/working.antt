@@ -1,9 +1,6 @@
 -- How a turn on links and on pools goes on, and what a loop passes on. Source: this project's own.
 pub mod Inputs
 pub mod Giving
-pub mod PassingOn
-pub mod Rounds
-pub mod Courses
 pub mod ReadingInputs
 pub mod Standings
 pub mod Writing

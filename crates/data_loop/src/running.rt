@@ -7,9 +7,9 @@ ghost use Rattle.data_loop.specs.LoopsOnBoards.{IsOnBoard};
 ghost use Rattle.ready_queues.specs.AnsweredWith.{IsWayOf};
 ghost use Rattle.data_loop.specs.LoopTries.{HasTurnedAt, HasWoken};
 ghost use Rattle.data_loop.specs.LoopWay.{HasNoDriver, IsUnderWay, IsSameLoop, IsWayFor, RestsAtMost};
-ghost use Rattle.data_loop.specs.working.PassingOn.{PassesOn, HasTriedAll};
-ghost use Rattle.data_loop.specs.working.Rounds.{IsRound, HasMadeRounds};
-ghost use Rattle.data_loop.specs.working.Courses.{HasGoneThrough, HasRunAll};
+ghost use Rattle.data_loop.specs.PassingOn.{PassesOn, HasTriedAll};
+ghost use Rattle.data_loop.specs.Rounds.{IsRound, HasMadeRounds};
+ghost use Rattle.data_loop.specs.Courses.{HasGoneThrough, HasRunAll};
 ghost use Rattle.data_loop.specs.Settling.{HasHadTurns, HasSettled};
 
 use crate::did::Did;

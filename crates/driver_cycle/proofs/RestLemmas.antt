@@ -8,7 +8,7 @@ use Rattle.ready_queues.specs.declared.ways.Ways.{Ways}
 use Rattle.data_loop.specs.declared.loop_state.LoopState.{LoopState}
 use Rattle.driver_cycle.specs.Settling.{AreEach}
 use Rattle.driver_cycle.specs.Waking.{HasTakenTurn, HasTurnedIdle, HasRested}
-use Rattle.driver_cycle.specs.Resting.{HasNotRested, HasTurnedRan, HasOneRan, EndsRound}
+use Rattle.driver_cycle.specs.working.Resting.{HasNotRested, HasTurnedRan, HasOneRan, EndsRound}
 
 -- after a turn
 module _ (p : BoardLayout) (ways : Ways) (s : LoopState) (a : Way) (t : LoopState) (b : Way) where

@@ -1,7 +1,7 @@
 pub mod Concluding
 pub mod Epochs
 pub mod Leading
-pub mod Resting
 pub mod Rounds
 pub mod Settling
 pub mod Waking
+pub mod working

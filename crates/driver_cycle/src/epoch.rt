@@ -11,7 +11,7 @@ ghost use Rattle.driver_cycle.specs.Rounds.{BeginsNext, HasLooked};
 ghost use Rattle.driver_cycle.specs.Settling.{HasSettled, AreEach};
 ghost use Rattle.driver_cycle.specs.Epochs.{IsThread, HasGoneOn, HasGoneRound};
 ghost use Rattle.driver_cycle.specs.Waking.{SendsBegun};
-ghost use Rattle.driver_cycle.specs.Resting.{EndsRound};
+ghost use Rattle.driver_cycle.specs.working.Resting.{EndsRound};
 
 use crate::leading::lead_once;
 use crate::rounds::begin_next;

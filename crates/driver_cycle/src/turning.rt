@@ -5,7 +5,7 @@ ghost use Rattle.data_loop.specs.LoopWay.{IsDriverWay};
 ghost use Rattle.data_loop.specs.LoopsOnBoards.{IsOnBoard};
 ghost use Rattle.driver_cycle.specs.Settling.{HasHadTurns, AreEach};
 ghost use Rattle.driver_cycle.specs.Waking.{HasTakenTurn, HasTurnedIdle};
-ghost use Rattle.driver_cycle.specs.Resting.{HasNotRested, HasOneRan};
+ghost use Rattle.driver_cycle.specs.working.Resting.{HasNotRested, HasOneRan};
 
 use crate::site::Site;
 use crate::waking::send_woken;

@@ -1,4 +1,4 @@
 pub mod Disks
-pub mod FileWhys
 pub mod KnownFiles
 pub mod Unread
+pub mod working

@@ -2,7 +2,7 @@
 ghost use Rattle.std.specs.Prelude.{◌≡◌};
 ghost use Rattle.std.specs.IoError.{error_kind};
 ghost use Rattle.pw_outside.specs.declared.files.FileFail.TheVariants as F;
-ghost use Rattle.system_files.specs.FileWhys.{why_of};
+ghost use Rattle.system_files.specs.working.FileWhys.{why_of};
 
 use pw_outside::{FileFail, MemFiles, SureFiles};
 use std::io;

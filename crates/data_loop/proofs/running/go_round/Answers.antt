@@ -4,7 +4,7 @@ use Rattle.ready_queues.specs.declared.way.Way.{Way}
 use Rattle.data_loop.specs.declared.loop_state.LoopState.{LoopState}
 use Rattle.data_loop.specs.LoopWay.{IsWayFor}
 use Rattle.data_loop.specs.Settling.{HasSettled}
-use Rattle.data_loop.specs.working.Rounds.{HasMadeRounds}
+use Rattle.data_loop.specs.Rounds.{HasMadeRounds}
 use Rattle.data_loop.proofs.SettlingLemmas.{no_turns, more_turns, settled_after}
 use Rattle.data_loop.proofs.running.go_round.Goals.{in-None, in-Some+then-go_once}
 use Rattle.data_loop.proofs.running.go_round.Goals as goal

@@ -1,7 +1,7 @@
 use Rattle.board_rule.specs.OnBoard.{layout, table_of}
 use Rattle.data_loop.specs.LoopWay.{IsWayFor}
 use Rattle.data_loop.specs.Settling.{HasHadTurns}
-use Rattle.data_loop.specs.working.Rounds.{HasMadeRounds}
+use Rattle.data_loop.specs.Rounds.{HasMadeRounds}
 use Rattle.ready_queues.specs.declared.way.Way.{Way}
 use Rattle.data_loop.specs.declared.loop_state.LoopState.{LoopState}
 use Rattle.data_loop.proofs.running.go_round.Given as goal

@@ -3,7 +3,7 @@ use Rattle.data_loop.specs.Loops.{plan_of}
 use Rattle.ready_queues.specs.declared.way.Way.{Way}
 use Rattle.data_loop.specs.declared.loop_state.LoopState.{LoopState}
 use Rattle.data_loop.specs.LoopWay.{HasNoDriver, IsUnderWay, IsSameLoop, IsWayFor}
-use Rattle.data_loop.specs.working.Courses.{HasRunAll}
+use Rattle.data_loop.specs.Courses.{HasRunAll}
 use Rattle.data_loop.proofs.running.run_all.Given as goal
 
 abbrev pub invariant-loop-state : goal.invariant-loop-state

@@ -6,7 +6,7 @@ use Rattle.data_loop.specs.LoopsOnBoards.{IsOnBoard}
 use Rattle.driver_cycle.specs.Settling.{HasHadTurns}
 use Rattle.driver_cycle.specs.Waking.{HasTakenTurn, HasTurnedIdle}
 use Rattle.driver_cycle.proofs.SettlingLemmas.{one_more, all_below}
-use Rattle.driver_cycle.specs.Resting.{HasTurnedRan}
+use Rattle.driver_cycle.specs.working.Resting.{HasTurnedRan}
 use Rattle.driver_cycle.proofs.ThreadLemmas.{neither}
 use Rattle.driver_cycle.proofs.RestLemmas.{HasOneRanBelow, turn_still, turn_ran, either, kept_ran, new_ran, one_ran}
 use Rattle.driver_cycle.proofs.turning.turn_all.Goals as goal

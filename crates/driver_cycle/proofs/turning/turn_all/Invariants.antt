@@ -3,7 +3,7 @@ use Rattle.board_rule.specs.OnBoard.{layout, table_of}
 use Rattle.data_loop.specs.LoopWay.{IsDriverWay}
 use Rattle.driver_cycle.specs.Settling.{HasHadTurns, AreEachBelow}
 use Rattle.driver_cycle.specs.Waking.{HasTurnedIdle}
-use Rattle.driver_cycle.specs.Resting.{HasNotRested}
+use Rattle.driver_cycle.specs.working.Resting.{HasNotRested}
 use Rattle.driver_cycle.proofs.RestLemmas.{HasOneRanBelow}
 use Rattle.driver_cycle.proofs.turning.turn_all.Given as goal
 

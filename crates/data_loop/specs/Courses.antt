@@ -9,7 +9,7 @@ use Rattle.ready_queues.specs.declared.way.Way.{Way}
 use Rattle.ready_queues.specs.declared.ways.Ways.{Ways}
 use Rattle.data_loop.specs.declared.loop_state.LoopState.{LoopState}
 use Rattle.data_loop.specs.LoopsOnBoards.{IsNextOf}
-use Rattle.data_loop.specs.working.Rounds.{HasMadeRounds}
+use Rattle.data_loop.specs.Rounds.{HasMadeRounds}
 
 -- ONE EPOCH, from s and a to t and b
 pub record HasGoneThrough (boards : List Board) (ways : Ways) (s : LoopState) (a : Way)

@@ -11,7 +11,7 @@ use Rattle.ready_queues.specs.Receiving.{HasReceived, AreSameEnds, IsSameThread}
 use Rattle.data_loop.specs.declared.did.Did.{Did}
 use Rattle.data_loop.specs.declared.loop_state.LoopState.{LoopState}
 use Rattle.data_loop.specs.LoopTries.{HasTurnedAt, HasWoken}
-use Rattle.data_loop.specs.working.PassingOn.{PassesOn, HasTriedAll}
+use Rattle.data_loop.specs.PassingOn.{PassesOn, HasTriedAll}
 
 -- the way received this number, a node of its own loop, and did nothing else
 pub record HasReceivedOne (ways : Ways) (node : ℕ) (a b : Way) : Type 0 where

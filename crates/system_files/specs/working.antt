@@ -1,0 +1,2 @@
+-- Why the system refuses a file. Source: this project's own.
+pub mod FileWhys
