@@ -5,8 +5,8 @@ use pw_top::{Content, Found, Store, What, Work};
 use std::alloc::Global;
 use wav_files::Wav;
 
-/// A line of the script, and the samples that its sink stored.
-pub(crate) type Stored = (u32, &'static [i16]);
+/// A line of the script, the file of its sink, and the samples that it stored.
+pub(crate) type Stored = (u32, &'static str, &'static [i16]);
 
 // Bytes that may be at hand.
 fn text_of(alloc: Global, bytes: Option<&[u8]>) -> Result<Option<Text>, Memory> {
@@ -21,8 +21,8 @@ fn text_of(alloc: Global, bytes: Option<&[u8]>) -> Result<Option<Text>, Memory> 
 
 // The store of a line.
 fn store_of(alloc: Global, stored: Stored) -> Result<Store, Memory> {
-    let (place, samples) = stored;
-    let name = Items::from_slice(alloc, b"o.wav".as_slice())?;
+    let (place, file, samples) = stored;
+    let name = Items::from_slice(alloc, file.as_bytes())?;
     let samples = Items::from_slice(alloc, samples)?;
     let content = Content::Wave(Wav {
         rate: 48_000,

@@ -24,7 +24,7 @@ const RUN: Noted = Noted {
     command: "run t.graph --trace",
     script: Some(b"# link a.out b.in\nsource s s.wav\nsink o o.wav\n\nlink s.out o.in\ncycles 1\n"),
     told: Some(b"link s.out o.in 48000 1 2\nbegin 0\nend 0\nwrote o 4\n"),
-    stored: &[],
+    stored: &[(3, "o.wav", &[0])],
     notes: b"",
 };
 
@@ -66,6 +66,7 @@ const SINKS: &'static [Noted] = &[
     Noted {
         script: Some(b"sink o o.wav\nmeter m\nsink p o.wav\nmeter n\n"),
         told: Some(b"unused o\nunused m\nwrote p 4\npeak n 3\n"),
+        stored: &[(3, "o.wav", &[0])],
         notes: b"pipegraph: t.graph:1: \"o\" had no format at the end, \
             so it does not write \"o.wav\", which another sink writes\n\
             pipegraph: t.graph:2: \"m\" had no format at the end, so it has no peak\n",
@@ -74,6 +75,7 @@ const SINKS: &'static [Noted] = &[
     Noted {
         script: Some(b"sink o o.wav\nsink p o.wav\nsink q q.wav\nsink r o.wav\nsink s s.wav\n"),
         told: Some(b"wrote o 4\nwrote p 4\nwrote q 4\nunused r\nunused s\n"),
+        stored: &[(1, "o.wav", &[0]), (2, "o.wav", &[0]), (3, "q.wav", &[0])],
         notes: b"pipegraph: t.graph:1: \"o.wav\" is written by a later sink too; \
             a regular file keeps what is written last\n\
             pipegraph: t.graph:4: \"r\" had no format at the end, \
@@ -84,6 +86,7 @@ const SINKS: &'static [Noted] = &[
     Noted {
         script: Some(b"sink o v.wav\nsource v v.wav\nsink p v.wav\nsink q v.wav\ncycles 2\n"),
         told: Some(b"wrote o 4\nwrote p 8\nunused q\n"),
+        stored: &[(1, "v.wav", &[0]), (3, "v.wav", &[0])],
         notes: b"pipegraph: t.graph:1: \"v.wav\" is written by a later sink too; \
             a regular file keeps what is written last\n\
             pipegraph: t.graph:1: \"v.wav\" is a source's file too: \
@@ -101,7 +104,7 @@ const EMPTY: &'static [Noted] = &[
     Noted {
         script: Some(b"# cycles 1\nsink o n1.wav\nmeter m\nmeter cycles\nsource v n1.wav\n"),
         told: Some(b"wrote o 0\npeak m 0\nunused cycles\n"),
-        stored: &[(2, &[])],
+        stored: &[(2, "n1.wav", &[])],
         notes: b"pipegraph: t.graph:2: \"n1.wav\" is a source's file too: \
             it was read first, and written after that\n\
             pipegraph: t.graph:2: \"o\" has no frames, so what it writes to \"n1.wav\" is an empty \
@@ -114,7 +117,7 @@ const EMPTY: &'static [Noted] = &[
     Noted {
         script: Some(b"sink o o.wav\nmeter m\n\tdrain\r\n"),
         told: Some(b"wrote o 0\npeak m 0\n"),
-        stored: &[(1, &[])],
+        stored: &[(1, "o.wav", &[])],
         notes: b"pipegraph: t.graph:1: \"o\" has no frames, so what it writes to \"o.wav\" \
             is an empty WAV file: it was active in no cycle since it got its format; \
             drain goes on only while an active source has frames left; \
@@ -124,7 +127,7 @@ const EMPTY: &'static [Noted] = &[
     Noted {
         script: Some(b"sink o o.wav\nmeter m\nsink p p.wav\ndrain\ncycles 3\n"),
         told: Some(b"wrote o 0\npeak m 0\nwrote p 10\n"),
-        stored: &[(1, &[]), (3, &[0])],
+        stored: &[(1, "o.wav", &[]), (3, "p.wav", &[0])],
         notes: b"pipegraph: t.graph:1: \"o\" has no frames, so what it writes to \"o.wav\" \
             is an empty WAV file: it was active in no cycle since it got its format; \
             groups gives each linked part a driver of its own\n",
@@ -134,7 +137,7 @@ const EMPTY: &'static [Noted] = &[
         command: "groups t.graph",
         script: Some(b"sink o o.wav\nsink p p.wav\ncycles 3\n"),
         told: Some(b"wrote o 0\nwrote p 0\n"),
-        stored: &[(1, &[]), (2, &[])],
+        stored: &[(1, "o.wav", &[]), (2, "p.wav", &[])],
         notes: b"pipegraph: t.graph:1: \"o\" has no frames, so what it writes to \"o.wav\" \
             is an empty WAV file: it was active in no cycle since it got its format\n\
             pipegraph: t.graph:2: \"p\" has no frames, so what it writes to \"p.wav\" is an empty \
@@ -145,7 +148,7 @@ const EMPTY: &'static [Noted] = &[
         command: "groups t.graph",
         script: Some(b"sink o o.wav\ndrain\n"),
         told: Some(b"wrote o 0\n"),
-        stored: &[(1, &[])],
+        stored: &[(1, "o.wav", &[])],
         notes: b"pipegraph: t.graph:1: \"o\" has no frames, so what it writes to \"o.wav\" \
             is an empty WAV file: it was active in no cycle since it got its format; \
             drain goes on only while an active source has frames left\n",
@@ -158,14 +161,18 @@ const EMPTY: &'static [Noted] = &[
 const CLIPPED: &'static [Noted] = &[
     Noted {
         script: Some(b"sink o o.wav\n"),
-        stored: &[(1, &[32767, -32768, 32766, -32767, 0, -1, 32767])],
+        stored: &[(1, "o.wav", &[32767, -32768, 32766, -32767, 0, -1, 32767])],
         notes: b"pipegraph: t.graph:1: \"o\" has 3 samples at the limit of 16 bits\n",
         ..RUN
     },
     Noted {
         script: Some(b"sink o o.wav\nsink p p.wav\nsink q q.wav\n"),
         told: Some(b"wrote o 1\nwrote p 1\nwrote q 1\n"),
-        stored: &[(1, &[32767]), (2, &[32766, -32767]), (3, &[-32768])],
+        stored: &[
+            (1, "o.wav", &[32767]),
+            (2, "p.wav", &[32766, -32767]),
+            (3, "q.wav", &[-32768]),
+        ],
         notes: b"pipegraph: t.graph:1: \"o\" has 1 sample at the limit of 16 bits\n\
             pipegraph: t.graph:3: \"q\" has 1 sample at the limit of 16 bits\n",
         ..RUN
@@ -175,10 +182,9 @@ const CLIPPED: &'static [Noted] = &[
         script: Some(b"sink o o.wav\nsource o o.wav\nmeter m\nsink p o.wav\n"),
         told: Some(b"wrote o 2\nunused p\npeak m 32768\n"),
         stored: &[
-            (2, &[32767]),
-            (1, &[32767, 32767]),
-            (3, &[32767]),
-            (4, &[32767]),
+            (2, "x.wav", &[32767]),
+            (1, "o.wav", &[32767, 32767]),
+            (3, "x.wav", &[32767]),
         ],
         notes: b"pipegraph: t.graph:1: \"o.wav\" is a source's file too: \
             it was read first, and written after that\n\
@@ -191,7 +197,7 @@ const CLIPPED: &'static [Noted] = &[
         command: "check t.graph t.txt",
         script: Some(b"sink o o.wav\n"),
         told: Some(b"legal\n"),
-        stored: &[(1, &[32767])],
+        stored: &[(1, "o.wav", &[32767])],
         ..RUN
     },
 ];

@@ -23,20 +23,20 @@ last_links words n line told text all e =
 
 pub more_sinks : (words : List (List ℕ)) (work : Work) (script : List ℕ) (n : ℕ) (line text : List ℕ)
     (all lines : List (List ℕ)) → all ≡ line ∷ lines → text ++ sink_notes words work script n all
-    ≡ text ++ sink_part words work script n line lines ++ sink_notes words work script (n + 1) lines
+    ≡ text ++ sink_part words work script n line ++ sink_notes words work script (n + 1) lines
 unfolding sink_notes
 more_sinks words work script n line text all lines e =
     ap (λ ls. text ++ sink_notes words work script n ls) e
-    ∙ sym (append_assoc text (sink_part words work script n line lines)
+    ∙ sym (append_assoc text (sink_part words work script n line)
     (sink_notes words work script (n + 1) lines))
 
 pub last_sinks : (words : List (List ℕ)) (work : Work) (script : List ℕ) (n : ℕ) (line text : List ℕ)
     (all : List (List ℕ)) → all ≡ line ∷ [] → text ++ sink_notes words work script n all
-    ≡ text ++ sink_part words work script n line []
+    ≡ text ++ sink_part words work script n line
 unfolding sink_notes
 last_sinks words work script n line text all e =
     more_sinks words work script n line text all [] e
-    ∙ append-nil (text ++ sink_part words work script n line [])
+    ∙ append-nil (text ++ sink_part words work script n line)
 
 -- a line that does not pass a test is passed over
 pub skip_line : (p : List ℕ → Bool) (n k : ℕ) (line : List ℕ) (all lines : List (List ℕ)) → k < n

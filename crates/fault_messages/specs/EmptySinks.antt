@@ -1,10 +1,9 @@
 -- Sinks and meters that got no frames, in words. Source: the sentences are this project's own; a
 -- node gets frames in the cycles in which it is active.
-use Rattle.std.specs.Prelude.{ℕ, ℤ, ◌||◌, not, Bool, List, [], ◌++◌, codes, bytes_eq, Option, if◌then◌else◌}
+use Rattle.std.specs.Prelude.{ℕ, ◌==◌, ℤ, ◌||◌, not, Bool, List, [], ◌++◌, length, codes, bytes_eq, if◌then◌else◌}
 use Rattle.fault_messages.specs.Places.{Words, word, quoted}
 use Rattle.fault_messages.specs.SuchLines.{has_command, is_given}
 use Rattle.fault_messages.specs.ReportedLines.{note_at}
-use Rattle.fault_messages.specs.SinkWaves.{has_no_frames}
 
 -- a script with a line that may make cycles
 abbrev pub has_cycles : List ℕ → Bool
@@ -44,9 +43,9 @@ still_meter name = quoted name
     ++ codes " got no frames, so its peak is 0: the script has no cycles line and no drain line"
 
 -- THE NOTE on a sink that stored no frames, by its samples
-abbrev pub empty_note : Words → Option (List ℤ) → List ℕ → ℕ → Words → List ℕ
+abbrev pub empty_note : Words → List ℤ → List ℕ → ℕ → Words → List ℕ
 empty_note words samples script n ws =
-    if has_no_frames samples then note_at words n
+    if length samples == 0 then note_at words n
     (empty_sink (word ws 1) (word ws 2) (empty_cause (word words 0) script))
     else []
 

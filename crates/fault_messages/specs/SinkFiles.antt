@@ -1,31 +1,33 @@
--- Which files sinks write, and notes on those that a later sink writes too or a source reads.
+-- Which files sinks have stored, and notes on those that a later sink writes too or a source reads.
 -- Source: this project's own.
-use Rattle.std.specs.Prelude.{ℕ, ◌&&◌, not, Bool, List, [], ◌++◌, codes, bytes_eq, if◌then◌else◌}
+use Rattle.std.specs.Prelude.{ℕ, ◌&&◌, Bool, List, [], ◌++◌, codes, bytes_eq, nat_lt, if◌then◌else◌}
 use Rattle.std.specs.List.{list_any}
-use Rattle.graph_script.specs.Lexical.{words_of}
-use Rattle.fault_messages.specs.Places.{Words, word, quoted}
+use Rattle.run_results.specs.declared.work.Store.{Store}
+use Rattle.fault_messages.specs.Places.{Words, quoted}
 use Rattle.fault_messages.specs.SuchLines.{has_line}
-use Rattle.fault_messages.specs.ReportedLines.{is_unused, note_at}
+use Rattle.fault_messages.specs.ReportedLines.{note_at}
 
-abbrev pub is_sink : List (List ℕ) → Bool
-is_sink ws = bytes_eq (word ws 0) (codes "sink")
+-- a store of this file, also of a line after this one; and whether there is one
+abbrev pub writes : List ℕ → Store → Bool
+writes file store = bytes_eq store.name file
 
--- a line of a sink that wrote this file, and whether there is one
-abbrev pub writes : List ℕ → List ℕ → List ℕ → Bool
-writes told file line = is_sink (words_of line)
-    && (bytes_eq (word (words_of line) 2) file && not (is_unused told (word (words_of line) 1)))
+abbrev pub writes_later : ℕ → List ℕ → Store → Bool
+writes_later n file store = nat_lt n store.place && writes file store
 
-abbrev pub is_written : List ℕ → List ℕ → List (List ℕ) → Bool
-is_written told file lines = list_any (writes told file) lines
+abbrev pub is_written : List Store → List ℕ → Bool
+is_written stores file = list_any (writes file) stores
 
--- THE NOTE on a file that a sink of these lines writes, which are after its own sink's
+abbrev pub is_written_later : List Store → ℕ → List ℕ → Bool
+is_written_later stores n file = list_any (writes_later n file) stores
+
+-- THE NOTE on a file of the sink of this line that a later sink writes
 unfoldable pub overwritten : List ℕ → List ℕ
 overwritten file = quoted file
     ++ codes " is written by a later sink too; a regular file keeps what is written last"
 
-abbrev pub later_note : Words → List ℕ → ℕ → List ℕ → Words → List ℕ
-later_note words told n file later =
-    if is_written told file later then note_at words n (overwritten file) else []
+abbrev pub later_note : Words → List Store → ℕ → List ℕ → List ℕ
+later_note words stores n file =
+    if is_written_later stores n file then note_at words n (overwritten file) else []
 
 -- THE NOTE on a file that a source of the script reads
 unfoldable pub read_too : List ℕ → List ℕ

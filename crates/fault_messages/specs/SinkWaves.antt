@@ -1,6 +1,6 @@
 -- The samples that a sink stored, and how many of them are at a limit. Source: PCM of 16 bits,
 -- whose samples are from -32768 to 32767.
-use Rattle.std.specs.Prelude.{ℕ, ◌==◌, ◌||◌, Bool, false, List, find, count_by, length, Option, Some, None}
+use Rattle.std.specs.Prelude.{ℕ, ◌==◌, ◌||◌, Bool, List, find, count_by, Option, Some, None}
 use Rattle.std.specs.Prelude.{ℤ, pos, neg_ℤ, int_le}
 use Rattle.run_results.specs.declared.work.Content.{Content}
 use Rattle.run_results.specs.declared.work.Content.TheVariants.{Bytes, Wave}
@@ -19,14 +19,9 @@ abbrev pub samples_of : Option Store → Option (List ℤ)
 samples_of None = None
 samples_of (Some store) = samples_in store.content
 
--- THE SAMPLES that the sink of a line stored
+-- THE SAMPLES that the sink of a line stored; none where it had no format
 abbrev pub samples_at : List Store → ℕ → Option (List ℤ)
 samples_at stores n = samples_of (store_at stores n)
-
--- there are none
-abbrev pub has_no_frames : Option (List ℤ) → Bool
-has_no_frames None = false
-has_no_frames (Some samples) = length samples == 0
 
 -- HOW MANY are at a limit
 abbrev pub is_at_limit : ℤ → Bool

@@ -1,5 +1,5 @@
 //! Sinks whose samples reach the limits of 16 bits, in words.
-ghost use Rattle.std.specs.Prelude.{◌≡◌, ◌++◌, map, string_bytes, option_copied, OnOk};
+ghost use Rattle.std.specs.Prelude.{◌≡◌, ◌++◌, map, string_bytes, OnOk};
 ghost use Rattle.fault_messages.specs.ClippedSinks.{limit_words, clipped_said, clipped_part, clipped_note};
 
 use crate::putting::{put_behind, put_note_head};
@@ -49,16 +49,12 @@ fn put_clipped_part(
 pub fn put_clipped_note(
     text: &mut Text,
     words: &[String],
-    samples: Option<&[i16]>,
+    samples: &[i16],
     number: u32,
     name: &[u8],
 ) -> Result<(), Memory>
     ensures { OnOk result (text.new ≡ text.old
-        ++ clipped_note (map string_bytes words.now) (option_copied samples.entry) number
-        name.now) }
+        ++ clipped_note (map string_bytes words.now) samples.now number name.now) }
 {
-    match samples {
-        None => Ok(()),
-        Some(samples) => put_clipped_part(text, words, number, name, at_limit(samples)),
-    }
+    put_clipped_part(text, words, number, name, at_limit(samples))
 }

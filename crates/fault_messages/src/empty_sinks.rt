@@ -1,5 +1,5 @@
 //! Sinks and meters that got no frames, in words.
-ghost use Rattle.std.specs.Prelude.{◌≡◌, ◌++◌, map, string_bytes, option_copied, OnOk};
+ghost use Rattle.std.specs.Prelude.{◌≡◌, ◌++◌, map, string_bytes, OnOk};
 ghost use Rattle.graph_script.specs.Lexical.{words_of};
 ghost use Rattle.fault_messages.specs.EmptySinks.{has_cycles, no_cycles, drain_part, groups_part, inactive_said};
 ghost use Rattle.fault_messages.specs.EmptySinks.{empty_cause, empty_sink, still_meter, empty_note, still_note};
@@ -7,7 +7,6 @@ ghost use Rattle.fault_messages.specs.EmptySinks.{empty_cause, empty_sink, still
 use crate::lines::word_of;
 use crate::places::word_at;
 use crate::putting::{put_behind, put_between, put_note_head, put_two_quoted};
-use crate::sink_waves::has_no_frames;
 use crate::such_lines::{has_command, is_given};
 use pw_lists::{Memory, Text};
 
@@ -110,16 +109,16 @@ fn put_still_meter(text: &mut Text, name: &[u8]) -> Result<(), Memory>
 pub fn put_empty_note(
     text: &mut Text,
     words: &[String],
-    samples: Option<&[i16]>,
+    samples: &[i16],
     script: &[u8],
     number: u32,
     line: &[u8],
 ) -> Result<(), Memory>
     ensures { OnOk result (text.new ≡ text.old
-        ++ empty_note (map string_bytes words.now) (option_copied samples.entry) script.now number
+        ++ empty_note (map string_bytes words.now) samples.now script.now number
         (words_of line.now)) }
 {
-    if !has_no_frames(samples) {
+    if !samples.is_empty() {
         return Ok(());
     }
     let (name, file) = (word_of(line, 1), word_of(line, 2));

@@ -1,56 +1,54 @@
-//! Which files sinks write, and notes on those that a later sink writes too or a source reads.
-ghost use Rattle.std.specs.Prelude.{◌≡◌, ◌++◌, [], map, string_bytes, OnOk};
-ghost use Rattle.std.specs.List.{list_any};
-ghost use Rattle.std.specs.Option.{option_map_or};
-ghost use Rattle.graph_script.specs.Lexical.{lines_of, words_of};
-ghost use Rattle.fault_messages.specs.SinkFiles.{is_sink, writes, is_written, overwritten, later_note, read_too, source_note};
+//! Which files sinks have stored, and notes on those that a later sink writes too or a source
+//! reads.
+ghost use Rattle.std.specs.Prelude.{◌≡◌, ◌++◌, map, string_bytes, OnOk};
+ghost use Rattle.fault_messages.specs.SinkFiles.{writes, writes_later, is_written, is_written_later};
+ghost use Rattle.fault_messages.specs.SinkFiles.{overwritten, later_note, read_too, source_note};
 
-use crate::lines::word_of;
 use crate::putting::{put_behind, put_note_head};
-use crate::reported_lines::is_unused;
 use crate::such_lines::has_line;
-use pw_lists::{Memory, Text, next_piece};
+use pw_lists::{Memory, Text};
+use run_results::Store;
 
-/// Whether the line is that of a sink.
-pub fn is_sink(line: &[u8]) -> bool
-    ensures { result ≡ is_sink (words_of line.now) }
+// Whether a store is of this file.
+fn writes(file: &[u8], store: &Store) -> bool
+    ensures { result ≡ writes file.now store.now }
 {
-    word_of(line, 0) == b"sink".as_slice()
+    store.name.as_slice() == file
 }
 
-// Whether the line is that of a sink that wrote this file.
-fn writes(told: &[u8], file: &[u8], line: &[u8]) -> bool
-    ensures { result ≡ writes told.now file.now line.now }
+// Whether it is of this file and of a line after this one.
+fn writes_later(number: u32, file: &[u8], store: &Store) -> bool
+    ensures { result ≡ writes_later number file.now store.now }
 {
-    is_sink(line) && word_of(line, 2) == file && !is_unused(told, word_of(line, 1))
+    number < store.place && writes(file, store)
 }
 
-/// Whether there is such a line.
-pub fn is_written_in(told: &[u8], file: &[u8], lines: &[u8]) -> bool
-    ensures { result ≡ list_any (writes told.now file.now) (lines_of lines.now) }
+/// Whether there is a store of this file.
+pub fn is_written(stores: &[Store], file: &[u8]) -> bool
+    ensures { result ≡ is_written stores.now file.now }
 {
-    let mut rest = lines;
-    loop {
-        let (line, after) = next_piece(rest, b'\n');
-        if writes(told, file, line) {
+    let mut rest = stores;
+    while let [store, more @ ..] = rest {
+        if writes(file, store) {
             return true;
         }
-        match after {
-            None => return false,
-            Some(more) => rest = more,
-        }
+        rest = more;
     }
+    false
 }
 
-// Whether there is one among later lines.
-fn is_written(told: &[u8], file: &[u8], later: Option<&[u8]>) -> bool
-    ensures { result ≡ is_written told.now file.now
-        (option_map_or (λ lines. lines_of lines.now) later.entry []) }
+// Whether there is one of a line after this one.
+fn is_written_later(stores: &[Store], number: u32, file: &[u8]) -> bool
+    ensures { result ≡ is_written_later stores.now number file.now }
 {
-    match later {
-        None => false,
-        Some(lines) => is_written_in(told, file, lines),
+    let mut rest = stores;
+    while let [store, more @ ..] = rest {
+        if writes_later(number, file, store) {
+            return true;
+        }
+        rest = more;
     }
+    false
 }
 
 #[tactic(auto, unfolding(crate::specs::SinkFiles::overwritten))]
@@ -64,20 +62,18 @@ fn put_overwritten(text: &mut Text, file: &[u8]) -> Result<(), Memory>
     )
 }
 
-/// The note on a file that a sink of later lines writes.
+/// The note on a file of the sink of this line that a later sink writes.
 pub fn put_later_note(
     text: &mut Text,
     words: &[String],
-    told: &[u8],
+    stores: &[Store],
     number: u32,
     file: &[u8],
-    later: Option<&[u8]>,
 ) -> Result<(), Memory>
     ensures { OnOk result (text.new ≡ text.old
-        ++ later_note (map string_bytes words.now) told.now number file.now
-        (option_map_or (λ lines. lines_of lines.now) later.entry [])) }
+        ++ later_note (map string_bytes words.now) stores.now number file.now) }
 {
-    if !is_written(told, file, later) {
+    if !is_written_later(stores, number, file) {
         return Ok(());
     }
     put_note_head(text, words, number)?;

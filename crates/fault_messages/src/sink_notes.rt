@@ -1,9 +1,8 @@
 //! Sinks and meters that got no format or no frames, the files of sinks, and samples at a limit, in
 //! words.
-ghost use Rattle.std.specs.Prelude.{◌≡◌, ◌++◌, [], map, string_bytes, option_copied, OnOk};
-ghost use Rattle.std.specs.Option.{option_map_or};
+ghost use Rattle.std.specs.Prelude.{◌≡◌, ◌++◌, map, string_bytes, option_copied, OnOk};
 ghost use Rattle.graph_script.specs.Lexical.{lines_of, words_of};
-ghost use Rattle.fault_messages.specs.SinkNotes.{is_meter, unused_sink, unused_other, unused_said, unused_meter};
+ghost use Rattle.fault_messages.specs.SinkNotes.{is_sink, is_meter, unused_sink, unused_other, unused_said, unused_meter};
 ghost use Rattle.fault_messages.specs.SinkNotes.{wave_notes, used_notes, sink_note, meter_note, sink_part, sink_notes};
 
 use crate::clipped_sinks::put_clipped_note;
@@ -11,10 +10,16 @@ use crate::empty_sinks::{put_empty_note, put_still_note};
 use crate::lines::word_of;
 use crate::putting::{put_behind, put_note_head, put_quoted_pair, put_two_quoted};
 use crate::reported_lines::is_unused;
-use crate::sink_files::{is_sink, is_written_in, put_later_note, put_source_note};
+use crate::sink_files::{is_written, put_later_note, put_source_note};
 use crate::sink_waves::samples_at;
 use pw_lists::{Memory, Text, next_piece};
-use run_results::Work;
+use run_results::{Store, Work};
+
+fn is_sink(line: &[u8]) -> bool
+    ensures { result ≡ is_sink (words_of line.now) }
+{
+    word_of(line, 0) == b"sink".as_slice()
+}
 
 fn is_meter(line: &[u8]) -> bool
     ensures { result ≡ is_meter (words_of line.now) }
@@ -48,12 +53,12 @@ fn put_unused_other(text: &mut Text, name: &[u8], file: &[u8]) -> Result<(), Mem
 }
 
 // Of a sink without a format, whose file another may write.
-fn put_unused_said(text: &mut Text, told: &[u8], script: &[u8], line: &[u8]) -> Result<(), Memory>
+fn put_unused_said(text: &mut Text, stores: &[Store], line: &[u8]) -> Result<(), Memory>
     ensures { OnOk result
-        (text.new ≡ text.old ++ unused_said told.now script.now (words_of line.now)) }
+        (text.new ≡ text.old ++ unused_said stores.now (words_of line.now)) }
 {
     let (name, file) = (word_of(line, 1), word_of(line, 2));
-    if is_written_in(told, file, script) {
+    if is_written(stores, file) {
         put_unused_other(text, name, file)
     } else {
         put_unused_sink(text, name, file)
@@ -67,65 +72,65 @@ fn put_unused_meter(text: &mut Text, name: &[u8]) -> Result<(), Memory>
     put_behind(text, name, b" had no format at the end, so it has no peak")
 }
 
-// The notes on the line of a sink with a format, by its samples.
+// Of a sink that stored samples: that there are none, or how many are at a limit.
 fn put_wave_notes(
     text: &mut Text,
     words: &[String],
-    samples: Option<&[i16]>,
+    samples: &[i16],
     script: &[u8],
     number: u32,
     line: &[u8],
 ) -> Result<(), Memory>
     ensures { OnOk result (text.new ≡ text.old
-        ++ wave_notes (map string_bytes words.now) (option_copied samples.entry) script.now number
+        ++ wave_notes (map string_bytes words.now) samples.now script.now number
         (words_of line.now)) }
 {
     put_empty_note(text, words, samples, script, number, line)?;
     put_clipped_note(text, words, samples, number, word_of(line, 1))
 }
 
-// The notes on the line of a sink with a format, with the lines after it.
+// The notes on the line of a sink that stored samples.
 fn put_used_notes(
     text: &mut Text,
     words: &[String],
-    work: &Work,
+    stores: &[Store],
+    samples: &[i16],
     script: &[u8],
     number: u32,
     line: &[u8],
-    later: Option<&[u8]>,
 ) -> Result<(), Memory>
     ensures { OnOk result (text.new ≡ text.old
-        ++ used_notes (map string_bytes words.now) work.now script.now number (words_of line.now)
-        (option_map_or (λ lines. lines_of lines.now) later.entry [])) }
+        ++ used_notes (map string_bytes words.now) stores.now samples.now script.now number
+        (words_of line.now)) }
 {
-    let (told, file) = (work.text.as_slice(), word_of(line, 2));
-    put_later_note(text, words, told, number, file, later)?;
+    let file = word_of(line, 2);
+    put_later_note(text, words, stores, number, file)?;
     put_source_note(text, words, script, number, file)?;
-    let samples = samples_at(work.stores.as_slice(), number);
     put_wave_notes(text, words, samples, script, number, line)
 }
 
-// The notes on the line of a sink, with the lines after it.
+// The notes on the line of a sink, by the samples that it stored, if it did.
 fn put_sink_note(
     text: &mut Text,
     words: &[String],
-    work: &Work,
+    stores: &[Store],
+    samples: Option<&[i16]>,
     script: &[u8],
     number: u32,
     line: &[u8],
-    later: Option<&[u8]>,
 ) -> Result<(), Memory>
     ensures { OnOk result (text.new ≡ text.old
-        ++ sink_note (map string_bytes words.now) work.now script.now number (words_of line.now)
-        (option_map_or (λ lines. lines_of lines.now) later.entry [])) }
+        ++ sink_note (map string_bytes words.now) stores.now (option_copied samples.entry)
+        script.now number (words_of line.now)) }
 {
-    let told = work.text.as_slice();
-    if is_unused(told, word_of(line, 1)) {
-        put_note_head(text, words, number)?;
-        put_unused_said(text, told, script, line)?;
-        return text.extend(b"\n");
+    match samples {
+        None => {
+            put_note_head(text, words, number)?;
+            put_unused_said(text, stores, line)?;
+            text.extend(b"\n")
+        }
+        Some(samples) => put_used_notes(text, words, stores, samples, script, number, line),
     }
-    put_used_notes(text, words, work, script, number, line, later)
 }
 
 // The note on the line of a meter.
@@ -150,7 +155,7 @@ fn put_meter_note(
     text.extend(b"\n")
 }
 
-// The notes on a line, with the lines after it.
+// The notes on a line.
 fn put_sink_part(
     text: &mut Text,
     words: &[String],
@@ -158,14 +163,14 @@ fn put_sink_part(
     script: &[u8],
     number: u32,
     line: &[u8],
-    later: Option<&[u8]>,
 ) -> Result<(), Memory>
     ensures { OnOk result (text.new ≡ text.old
-        ++ sink_part (map string_bytes words.now) work.now script.now number line.now
-        (option_map_or (λ lines. lines_of lines.now) later.entry [])) }
+        ++ sink_part (map string_bytes words.now) work.now script.now number line.now) }
 {
     if is_sink(line) {
-        put_sink_note(text, words, work, script, number, line, later)
+        let stores = work.stores.as_slice();
+        let samples = samples_at(stores, number);
+        put_sink_note(text, words, stores, samples, script, number, line)
     } else if is_meter(line) {
         put_meter_note(text, words, work.text.as_slice(), script, number, line)
     } else {
@@ -175,9 +180,9 @@ fn put_sink_part(
 
 /// Which sinks and meters of a script had no format at the end or got no frames, which sinks wrote
 /// a file that a later one writes too or a source reads, and which have samples at a limit of 16
-/// bits: a note for each, by what the run stored and put. Cost: for each sink and meter one look at
-/// each byte of the script and of the text and at each sample of the sink, and for each other sink
-/// of the same file another at the text.
+/// bits: a note for each, by what the run stored and put. Cost: for each sink one look at each of its
+/// samples, for each meter one at each byte of the text, and for each of both one at each byte of
+/// the script.
 pub fn put_sink_notes(
     text: &mut Text,
     words: &[String],
@@ -191,7 +196,7 @@ pub fn put_sink_notes(
     let mut number: u32 = 1;
     loop {
         let (line, after) = next_piece(rest, b'\n');
-        put_sink_part(text, words, work, script, number, line, after)?;
+        put_sink_part(text, words, work, script, number, line)?;
         match after {
             None => return Ok(()),
             Some(more) => rest = more,

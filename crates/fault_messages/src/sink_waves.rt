@@ -1,6 +1,6 @@
 //! The samples that a sink stored, and how many of them are at a limit.
 ghost use Rattle.std.specs.Prelude.{◌≡◌, option_copied};
-ghost use Rattle.fault_messages.specs.SinkWaves.{samples_in, samples_at, has_no_frames, is_at_limit, at_limit};
+ghost use Rattle.fault_messages.specs.SinkWaves.{samples_in, samples_at, is_at_limit, at_limit};
 
 use run_results::{Content, Store};
 
@@ -14,7 +14,7 @@ fn samples_in(content: &Content) -> Option<&[i16]>
     }
 }
 
-/// The samples that the sink of the line of this number stored.
+/// The samples that the sink of the line of this number stored; none where it had no format.
 pub fn samples_at(stores: &[Store], number: u32) -> Option<&[i16]>
     ensures { option_copied result ≡ samples_at stores.now number }
 {
@@ -26,16 +26,6 @@ pub fn samples_at(stores: &[Store], number: u32) -> Option<&[i16]>
         rest = more;
     }
     None
-}
-
-/// Whether a sink stored a wave without frames.
-pub fn has_no_frames(samples: Option<&[i16]>) -> bool
-    ensures { result ≡ has_no_frames (option_copied samples.entry) }
-{
-    match samples {
-        None => false,
-        Some(samples) => samples.is_empty(),
-    }
 }
 
 // Whether a sample is at a limit of 16 bits.
