@@ -18,6 +18,8 @@ mod notes;
 #[cfg(test)]
 mod people;
 #[cfg(test)]
+mod people_notes;
+#[cfg(test)]
 mod pods;
 #[cfg(test)]
 mod programs;
@@ -25,6 +27,8 @@ mod programs;
 mod quoting;
 #[cfg(test)]
 mod reasons;
+#[cfg(test)]
+mod refused_files;
 #[cfg(test)]
 mod traces;
 #[cfg(test)]

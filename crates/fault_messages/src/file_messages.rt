@@ -77,6 +77,7 @@ fn why_said(why: Option<FileWhy>) -> &'static [u8]
 }
 
 /// That a file is not read.
+#[tactic(auto, unfolding(crate::specs::FileMessages::read_said))]
 pub fn put_read(text: &mut Text, why: Option<FileWhy>) -> Result<(), Memory>
     ensures { OnOk result (text.new ≡ text.old ++ read_said why) }
 {
@@ -85,6 +86,7 @@ pub fn put_read(text: &mut Text, why: Option<FileWhy>) -> Result<(), Memory>
 }
 
 /// That a file is not written.
+#[tactic(auto, unfolding(crate::specs::FileMessages::write_said))]
 pub fn put_write(text: &mut Text, why: Option<FileWhy>) -> Result<(), Memory>
     ensures { OnOk result (text.new ≡ text.old ++ write_said why) }
 {

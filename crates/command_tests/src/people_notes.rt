@@ -1,0 +1,260 @@
+//! What people are told where all was done, and of files whose names are odd, as rows.
+
+use crate::people::{Asked, RUN, first_unlike};
+use row_files::Held;
+
+/// A format whose channels are 1, and objects of type 0x40002 with keys that formats have.
+const CHANNELS: Held<'static> = Held::Words(&[32, 15, 262147, 3, 65540, 0, 4, 4, 1, 0]);
+
+const PROPS: Held<'static> = Held::Words(&[32, 15, 262146, 2, 65539, 0, 4, 4, 1, 0]);
+
+const OTHERS: Held<'static> = Held::Words(&[32, 15, 262146, 2, 65539, 0, 4, 4, 2, 0]);
+
+const TWICE: Held<'static> = Held::Words(&[56, 15, 262146, 2, 2, 0, 4, 4, 1, 0, 2, 0, 4, 4, 2, 0]);
+
+/// Notes on links and formats, where all was done, and PODs that are refused.
+const NOTES: &'static [Asked] = &[
+    Asked {
+        script: b"square a 48000 1 2 5\nsquare c 48000 2 2 5\nmeter m\nlink c.out m.in\n\
+            link a.out m.in\n",
+        code: 0,
+        out: b"link c.out m.in 48000 2 2\nnolink a.out m.in 65540\npeak m 0\n",
+        said: b"s.graph:5: \"a.out\" to \"m.in\" is no link: no common channels (key 65540); \
+            map NAME 1 0,0 makes two channels of one\n\
+            pipegraph: s.graph:3: \"m\" got no frames, so its peak is 0: \
+            the script has no cycles line and no drain line",
+        ..RUN
+    },
+    Asked {
+        line: "filter a.pod b.pod o.pod",
+        files: &[("a.pod", PROPS), ("b.pod", OTHERS)],
+        code: 0,
+        out: b"clash 65539\n",
+        said: b"a.pod and b.pod: no common value under key 65539 (a format's rate)",
+        ..RUN
+    },
+    Asked {
+        line: "filter a.pod b.pod o.pod",
+        files: &[("a.pod", PROPS), ("b.pod", CHANNELS)],
+        code: 0,
+        out: b"clash type\n",
+        said: b"a.pod and b.pod: objects of different types",
+        ..RUN
+    },
+    Asked {
+        line: "filter a.pod a.pod o.pod",
+        files: &[("a.pod", TWICE)],
+        code: 4,
+        out: b"pod 1 12 2\n",
+        said: b"a.pod: a property stands twice, under key 2 (a format's media subtype)",
+        ..RUN
+    },
+    Asked {
+        line: "check s.graph t.txt",
+        script: b"cycles 1\n",
+        files: &[("t.txt", Held::Bytes(b"wrote o 4\n"))],
+        code: 0,
+        out: b"line 1\n",
+        said: b"t.txt:1: no event line; grep -E '^(begin|start|finish|tick|end) ' \
+            takes those of a run's text",
+        ..RUN
+    },
+];
+
+/// Notes on traces: under an odd name, of the longest name of a node, and of the script itself.
+const TRACES: &'static [Asked] = &[
+    Asked {
+        line: "check s.graph a\\b\u{1}.txt",
+        script: b"cycles 1\n",
+        files: &[("a\\b\u{1}.txt", Held::Bytes(b"begin 0\nend 0\n"))],
+        code: 0,
+        out: b"illegal 2\n",
+        said: b"a\\\\b\\x01.txt:2: end 0: cycle 0 cannot end before \"dummy\" has finished",
+        ..RUN
+    },
+    Asked {
+        line: "check s.graph t.txt",
+        script: b"meter a23456789_123456789_123456789_1\ncycles 1\n",
+        files: &[(
+            "t.txt",
+            Held::Bytes(b"begin 0\nfinish 0 a23456789_123456789_123456789_1\n"),
+        )],
+        code: 0,
+        out: b"illegal 2\n",
+        said: b"t.txt:2: finish 0 a23456789_123456789_123456789_1: \
+            \"a23456789_123456789_123456789_1\" has not started in cycle 0",
+        ..RUN
+    },
+    Asked {
+        line: "check s.graph s.graph",
+        script: b"# begin 0\ncycles 1\n",
+        code: 0,
+        out: b"line 1\n",
+        said: b"s.graph:1: no event line; grep -E '^(begin|start|finish|tick|end) ' \
+            takes those of a run's text",
+        ..RUN
+    },
+    Asked {
+        line: "check s.graph t.txt",
+        script: b"cycles 1\n",
+        files: &[("t.txt", Held::Bytes(b"begin 0\r\n"))],
+        code: 0,
+        out: b"line 1\n",
+        said: b"t.txt:1: no event line; grep -E '^(begin|start|finish|tick|end) ' \
+            takes those of a run's text",
+        ..RUN
+    },
+];
+
+/// Notes on sinks and meters.
+const SINKS: &'static [Asked] = &[
+    Asked {
+        script: b"source s s.wav\nsink o n1.wav\nmeter m\nlink s.out o.in\nlink s.out m.in\n",
+        code: 0,
+        out: b"link s.out o.in 48000 1 2\nlink s.out m.in 48000 1 2\nwrote o 0\npeak m 0\n",
+        said: b"s.graph:2: \"o\" has no frames, so what it writes to \"n1.wav\" is an empty \
+            WAV file: the script has no cycles line and no drain line\n\
+            pipegraph: s.graph:3: \"m\" got no frames, so its peak is 0: \
+            the script has no cycles line and no drain line",
+        ..RUN
+    },
+    Asked {
+        script: b"square q 48000 1 2 5\nsink o o.wav\nlink q.out o.in\ndrain\n",
+        code: 0,
+        out: b"link q.out o.in 48000 1 2\nwrote o 0\n",
+        said: b"s.graph:2: \"o\" has no frames, so what it writes to \"o.wav\" is an empty \
+            WAV file: it was active in no cycle since it got its format; \
+            drain goes on only while an active source has frames left; \
+            groups gives each linked part a driver of its own",
+        ..RUN
+    },
+    Asked {
+        script: b"square a 48000 1 2 5\nsink o o.wav\nlink a.out o.in\nmeter m\ndriver m 1\n\
+            square b 48000 1 2 5\nlink b.out m.in\ncycles 2\n",
+        code: 0,
+        out: b"link a.out o.in 48000 1 2\nlink b.out m.in 48000 1 2\nwrote o 0\npeak m 5\n",
+        said: b"s.graph:2: \"o\" has no frames, so what it writes to \"o.wav\" is an empty \
+            WAV file: it was active in no cycle since it got its format; \
+            groups gives each linked part a driver of its own",
+        ..RUN
+    },
+    Asked {
+        line: "groups s.graph",
+        script: b"cycles 1\nsquare a 48000 1 2 5\nsink o o.wav\nlink a.out o.in\n",
+        code: 0,
+        out: b"link a.out o.in 48000 1 2\nwrote o 0\n",
+        said: b"s.graph:3: \"o\" has no frames, so what it writes to \"o.wav\" is an empty \
+            WAV file: it was active in no cycle since it got its format",
+        ..RUN
+    },
+    Asked {
+        script: b"quantum 2\nsource s s.wav\nsink o s.wav\nlink s.out o.in\ncycles 2\n",
+        code: 0,
+        out: b"link s.out o.in 48000 1 2\nwrote o 4\n",
+        said: b"s.graph:3: \"s.wav\" is a source's file too: it was read first, \
+            and written after that",
+        ..RUN
+    },
+    Asked {
+        script: b"quantum 2\nsource s s.wav\nsink o \"a\\b.wav\nsink p \"a\\b.wav\n\
+            link s.out p.in\nlink s.out o.in\ncycles 2\n",
+        code: 0,
+        out: b"link s.out p.in 48000 1 2\nlink s.out o.in 48000 1 2\nwrote o 4\nwrote p 4\n",
+        said: b"s.graph:3: \"\"a\\\\b.wav\" is written by a later sink too; \
+            a regular file keeps what is written last",
+        ..RUN
+    },
+    Asked {
+        script: b"quantum 2\nsource s s.wav\nsink o o.wav\nsink p o.wav\nlink s.out p.in\n\
+            cycles 2\n",
+        code: 0,
+        out: b"link s.out p.in 48000 1 2\nunused o\nwrote p 4\n",
+        said: b"s.graph:3: \"o\" had no format at the end, so it does not write \"o.wav\", \
+            which another sink writes",
+        ..RUN
+    },
+];
+
+/// Sinks whose samples reach the limits of 16 bits.
+const CLIPPED: &'static [Asked] = &[
+    Asked {
+        script: b"quantum 2\nsource s c.wav\nsink o o.wav\nlink s.out o.in\ncycles 2\n",
+        files: &[("c.wav", Held::Mono(&[32767, -32768, 7]))],
+        code: 0,
+        out: b"link s.out o.in 48000 1 2\nwrote o 4\n",
+        said: b"s.graph:3: \"o\" has 2 samples at the limit of 16 bits",
+        ..RUN
+    },
+    Asked {
+        script: b"quantum 2\nsource s c.wav\nsink o o.wav\nlink s.out o.in\ncycles 2\n",
+        files: &[("c.wav", Held::Mono(&[32766, -32767, -32768]))],
+        code: 0,
+        out: b"link s.out o.in 48000 1 2\nwrote o 4\n",
+        said: b"s.graph:3: \"o\" has 1 sample at the limit of 16 bits",
+        ..RUN
+    },
+    Asked {
+        script: b"quantum 1\nsource s c.wav\nsink o o.wav\nsink p o.wav\nlink s.out o.in\n\
+            link s.out p.in\ncycles 2\n",
+        files: &[("c.wav", Held::Stereo(&[32767, 32767, 0, -32768]))],
+        code: 0,
+        out: b"link s.out o.in 48000 2 2\nlink s.out p.in 48000 2 2\nwrote o 2\nwrote p 2\n",
+        said: b"s.graph:3: \"o.wav\" is written by a later sink too; \
+            a regular file keeps what is written last\n\
+            pipegraph: s.graph:3: \"o\" has 3 samples at the limit of 16 bits\n\
+            pipegraph: s.graph:4: \"p\" has 3 samples at the limit of 16 bits",
+        ..RUN
+    },
+    Asked {
+        line: "groups s.graph",
+        script: b"quantum 4\nsink o s.wav\nsquare q 48000 1 2 20000\ngain g 512\n\
+            source s s.wav\nlink q.out g.in\nlink g.out o.in\ncycles 1\n",
+        code: 0,
+        out: b"link q.out g.in 48000 1 2\nlink g.out o.in 48000 1 2\nwrote o 4\n",
+        said: b"s.graph:2: \"s.wav\" is a source's file too: it was read first, \
+            and written after that\n\
+            pipegraph: s.graph:2: \"o\" has 4 samples at the limit of 16 bits",
+        ..RUN
+    },
+];
+
+/// Files whose names are odd.
+const NAMES: &'static [Asked] = &[
+    Asked {
+        line: "dump a\\x41",
+        code: 5,
+        out: b"absent 1\n",
+        said: b"a\\\\x41: there is no such file",
+        ..RUN
+    },
+    Asked {
+        line: "dump a\u{80}b\u{9f}\u{a1}",
+        code: 5,
+        out: b"absent 1\n",
+        said: b"a\\xc2\\x80b\\xc2\\x9f\xc2\xa1: there is no such file",
+        ..RUN
+    },
+    Asked {
+        line: "dump \u{410}\u{7f}\u{1}\u{90}\u{10ffff}",
+        code: 5,
+        out: b"absent 1\n",
+        said: b"\xd0\x90\\x7f\\x01\\xc2\\x90\xf4\x8f\xbf\xbf: there is no such file",
+        ..RUN
+    },
+    Asked {
+        line: "filter same same same",
+        code: 5,
+        out: b"absent 1\n",
+        said: b"same: there is no such file",
+        ..RUN
+    },
+];
+
+#[test]
+fn notes_and_odd_names_are_shown(rt: HostRuntime) {
+    assert_eq!(rt; first_unlike(&rt, NOTES, b""), None);
+    assert_eq!(rt; first_unlike(&rt, TRACES, b""), None);
+    assert_eq!(rt; first_unlike(&rt, SINKS, b""), None);
+    assert_eq!(rt; first_unlike(&rt, CLIPPED, b""), None);
+    assert_eq!(rt; first_unlike(&rt, NAMES, b""), None);
+}
