@@ -43,10 +43,10 @@ why_said (Some Y.Folder) = codes ": it is a folder"
 why_said (Some Y.Permission) = codes ": the system does not permit it"
 why_said (Some Y.Full) = codes ": no room is left"
 
-unfoldable pub read_said : Option FileWhy → List ℕ
+abbrev pub read_said : Option FileWhy → List ℕ
 read_said why = codes "the file cannot be read" ++ why_said why
 
-unfoldable pub write_said : Option FileWhy → List ℕ
+abbrev pub write_said : Option FileWhy → List ℕ
 write_said why = codes "the file cannot be written" ++ why_said why
 
 abbrev pub limit_said : Which → List ℕ

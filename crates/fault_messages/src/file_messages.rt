@@ -2,7 +2,7 @@
 ghost use Rattle.std.specs.Prelude.{◌≡◌, ◌==◌, ◌++◌, option_copied, OnOk};
 ghost use Rattle.std.specs.List.{list_any};
 ghost use Rattle.fault_messages.specs.FileMessages.{wav_said, absent_text, absent_said};
-ghost use Rattle.fault_messages.specs.FileMessages.{why_said, read_said, write_said};
+ghost use Rattle.fault_messages.specs.FileMessages.{read_said, write_said};
 ghost use Rattle.fault_messages.specs.FileMessages.{limit_said, is_of_file, limit_text};
 
 use crate::lines::begins;
@@ -63,35 +63,30 @@ pub fn absent_said(line: Option<&[u8]>) -> &'static [u8]
     }
 }
 
-// Why the system refused it, where that is known.
-fn why_said(why: Option<FileWhy>) -> &'static [u8]
-    ensures { result.now ≡ why_said why }
+/// That a file is not read, and why, where that is known.
+pub fn read_said(why: Option<FileWhy>) -> &'static [u8]
+    ensures { result.now ≡ read_said why }
 {
     match why {
-        None => b"",
-        Some(FileWhy::NoFolder) => b": there is no such folder",
-        Some(FileWhy::Folder) => b": it is a folder",
-        Some(FileWhy::Permission) => b": the system does not permit it",
-        Some(FileWhy::Full) => b": no room is left",
+        None => b"the file cannot be read",
+        Some(FileWhy::NoFolder) => b"the file cannot be read: there is no such folder",
+        Some(FileWhy::Folder) => b"the file cannot be read: it is a folder",
+        Some(FileWhy::Permission) => b"the file cannot be read: the system does not permit it",
+        Some(FileWhy::Full) => b"the file cannot be read: no room is left",
     }
 }
 
-/// That a file is not read.
-#[tactic(auto, unfolding(crate::specs::FileMessages::read_said))]
-pub fn put_read(text: &mut Text, why: Option<FileWhy>) -> Result<(), Memory>
-    ensures { OnOk result (text.new ≡ text.old ++ read_said why) }
+/// That a file is not written, and why, where that is known.
+pub fn write_said(why: Option<FileWhy>) -> &'static [u8]
+    ensures { result.now ≡ write_said why }
 {
-    text.extend(b"the file cannot be read")?;
-    text.extend(why_said(why))
-}
-
-/// That a file is not written.
-#[tactic(auto, unfolding(crate::specs::FileMessages::write_said))]
-pub fn put_write(text: &mut Text, why: Option<FileWhy>) -> Result<(), Memory>
-    ensures { OnOk result (text.new ≡ text.old ++ write_said why) }
-{
-    text.extend(b"the file cannot be written")?;
-    text.extend(why_said(why))
+    match why {
+        None => b"the file cannot be written",
+        Some(FileWhy::NoFolder) => b"the file cannot be written: there is no such folder",
+        Some(FileWhy::Folder) => b"the file cannot be written: it is a folder",
+        Some(FileWhy::Permission) => b"the file cannot be written: the system does not permit it",
+        Some(FileWhy::Full) => b"the file cannot be written: no room is left",
+    }
 }
 
 /// What passes a limit.
