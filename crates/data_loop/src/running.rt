@@ -106,8 +106,8 @@ fn try_all<R: Wait, G: Gate>(
     }
 }
 
-// One round on the board of the loop's epoch: of the number that its queue gives, or where it gives
-// none of all followers. Whether it found that no follower has cycles left.
+// One round on the board of the loop's epoch: of the number that its queue gives, or one turn where
+// it gives none. Whether it found that no follower has cycles left.
 fn go_once<R: Wait, G: Gate>(
     rt: &R,
     board: &Board,
@@ -181,14 +181,14 @@ fn go_through<R: Wait, G: Gate>(
     state.next_epoch();
 }
 
-/// Turns until all epochs are done: numbers that its queue gives are tried first, and where there
-/// are none all followers; where no node is awake, the thread rests, unless its loop is called
+/// Turns until all epochs are done: numbers that its queue gives are tried first, and where it
+/// gives none there is a turn; where no node is awake, the thread rests, unless its loop is called
 /// within some microseconds. It may wait. Takes no memory.
 ///
 /// In each epoch the loop goes in rounds. Either its queue gave a number: then the node of that
-/// very number was tried, and what it woke was passed on. Or the queue gave none: then all
-/// followers were tried in one turn, and what it woke was passed on; only after such a turn, in
-/// which no node was awake and some had cycles left, may the thread have rested.
+/// very number was tried, and what it woke was passed on. Or the queue gave none: then there was
+/// one turn, and what it woke was passed on; only after such a turn, in which no node was awake and
+/// some had cycles left, may the thread have rested.
 /// Condition: there is one board an epoch, in order, on which the loop has its seats; none of its
 /// nodes drives; the way is that of a loop whose nodes are those of the state.
 pub fn run_all<R: Wait, G: Gate>(
