@@ -11,7 +11,7 @@ use Rattle.data_loop.specs.declared.loop_state.LoopState.{LoopState}
 use Rattle.data_loop.specs.LoopsOnBoards.{IsNextOf}
 use Rattle.data_loop.specs.Rounds.{HasMadeRounds}
 
--- ONE EPOCH, or what was left of it, from s and a to t and b
+-- ONE EPOCH, from s and a to t and b
 pub record HasGoneThrough (boards : List Board) (ways : Ways) (s : LoopState) (a : Way)
     (t : LoopState) (b : Way) : Type 0 where
   pub board : Board
@@ -28,8 +28,7 @@ AreGoneThrough boards ways [] s a t b = (t ≡ s) × (b ≡ a)
 AreGoneThrough boards ways (m ∷ ms) s a t b = HasGoneThrough boards ways s a m.0 m.1
     × AreGoneThrough boards ways ms m.0 m.1 t b
 
--- FROM s and a to t and b by some epochs; that these are all that were left, `done` of `run_all`
--- says
+-- all epochs that were left
 abbrev pub HasRunAll : List Board → Ways → LoopState → Way → LoopState → Way → Type 0
 HasRunAll boards ways s a t b = (after : List (LoopState × Way))
     × AreGoneThrough boards ways after s a t b

@@ -14,8 +14,7 @@ use Rattle.data_loop.specs.LoopsOnBoards.{HasTurnedOnce}
 use Rattle.data_loop.specs.LoopTries.{HasWoken}
 use Rattle.data_loop.specs.LoopWay.{RestsAtMost}
 
--- each node of the set was sent to its loop, or came back; the loop's thread was unparked, unless it
--- is the way's own
+-- each node of the set was sent to its loop, whose thread was unparked, unless it is the way's own
 abbrev pub Forwards : Ways → ℕ → Way → Way → Type 0
 Forwards ways woke a b = (full : ℕ) × HasForwarded ways.owner ways.loops woke full a b
 

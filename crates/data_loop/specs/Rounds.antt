@@ -1,5 +1,5 @@
 -- The rounds of a loop in a thread of its own, on the board of one epoch: in each the number that
--- its queue gave is tried, or where it gave none there is one turn.
+-- its queue gave is tried, or where it gave none all its followers are, in one turn.
 -- Source: PipeWire's documentation, "Graph Scheduling" and "Data loops"; that what is woken goes
 -- through queues is this project's own.
 use Rattle.std.specs.Prelude.{◌≡◌, ◌⊎◌, ℕ, Bool, true, false, List, [], ◌∷◌}
@@ -35,15 +35,14 @@ pub record HasTriedGiven (p : BoardLayout) (ways : Ways) (s : LoopState) (a : Wa
   pub woken : HasWoken did t
   pub passed : PassesOn ways did t way b
 
--- NOTHING was received, and there was one turn
+-- NOTHING was received, and all were tried
 pub record HasTriedRest (settled : Bool) (p : BoardLayout) (ways : Ways) (s : LoopState)
     (a : Way) (t : LoopState) (b : Way) : Type 0 where
   pub way : Way
   pub received : HasReceivedNone a way
   pub tried : HasTriedAll settled p ways s way t b
 
--- A ROUND is one of the two; its answer is whether it found that no follower has cycles left, which
--- only a turn finds
+-- A ROUND is one of the two; its answer is whether no follower has cycles left
 abbrev pub IsRound : Bool → BoardLayout → Ways → LoopState → Way → LoopState → Way → Type 0
 IsRound settled p ways s a t b =
     ((settled ≡ false) × HasTriedGiven p ways s a t b) ⊎ HasTriedRest settled p ways s a t b

@@ -16,8 +16,8 @@ use Rattle.data_loop.specs.LoopTries.{HasWoken}
 -- a rest: once, and nothing else was done with the way
 pub use Rattle.ready_queues.specs.Receiving.{HasRested}
 
--- SENT: each node of the set was sent to its loop, whose thread was unparked; some may have come
--- back
+-- SENT: each node of the set was sent to its loop, whose thread was unparked; some may have found
+-- their queue full
 abbrev pub HasSent : Ways → ℕ → Way → Way → Type 0
 HasSent ways woke a b = (full : ℕ) × HasForwarded ways.owner ways.loops woke full a b
 

@@ -77,7 +77,9 @@ fn a_script_that_was_read_is_found_whatever_is_wrong_with_it(rt: HostRuntime) ->
 // Whether work is one store of the sink, and this text.
 fn is_work(work: &Work, text: &Items<u8>) -> bool {
     match work.stores.as_slice() {
-        [Store { place: 3, name, .. }] => name.as_slice() == b"o.wav" && work.text == *text,
+        [Store { place: 3, name, .. }] => {
+            name.as_slice() == b"o.wav".as_slice() && work.text.as_slice() == text.as_slice()
+        }
         _ => false,
     }
 }

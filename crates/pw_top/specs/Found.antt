@@ -12,7 +12,8 @@ use Rattle.pw_top.specs.Usage.{Words, command_of}
 use Rattle.pw_top.specs.WhatFound.{IsWhat}
 use Rattle.pw_top.specs.WorkFound.{work_in}
 
--- WHAT A CALL FOUND, by its words, by what the files held before it and by its status
+-- WHAT A CALL FOUND of its script and of its trace, by its words, by what the files held before it
+-- and by its status; of its work `IsWorkFound` speaks
 pub record IsFound (words : Words) (held : Held) (status : Status) (found : Found) : Type 0 where
   pub script : IsScriptOf (command_of words) held status found.script
   pub what : IsWhat words held status found.what

@@ -29,7 +29,8 @@ abbrev pub IsRead : Held → ℕ → List ℕ → Result (List ℕ) Status → T
 IsRead held place name (Ok bytes) = WasStored held name bytes
 IsRead held place name (Err status) = EndsAtLoad place status
 
--- OF A SCRIPT under this name, by how the command ends: its bytes, unless their load ended it
+-- OF A SCRIPT under this name, by how the command ends: its bytes; or none, which is only so after a
+-- status that their load may end with
 abbrev pub IsScriptUnder : Held → List ℕ → Status → Option (List ℕ) → Type 0
 IsScriptUnder held name status None = EndsAtLoad 0 status
 IsScriptUnder held name status (Some bytes) = WasStored held name bytes

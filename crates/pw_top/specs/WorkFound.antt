@@ -7,7 +7,7 @@ use Rattle.run_results.specs.declared.status.Status.TheVariants as S
 use Rattle.run_results.specs.declared.work.Work.{Work}
 use Rattle.pw_top.specs.Following.{AllStored}
 
--- the work, of which all was stored and put; each before and after
+-- work was found, and all of it was stored and put: files and output before and after
 pub record IsDone (held held' : Held) (given given' : Given) (found : Option Work) : Type 0 where
   pub work : Work
   pub there : found ≡ Some work

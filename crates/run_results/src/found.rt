@@ -23,7 +23,7 @@ pub enum What {
     Nothing,
     /// Of `check`: why the events of the trace are no legal history of the script's plan, and the
     /// event at that place, where the trace does not end before it. Nodes are counted from 0, as
-    /// the script makes them; 63 is the dummy. Both are `None` where the events are one.
+    /// the script makes them; 63 is the dummy. Both are `None` where the events are legal.
     Check {
         reason: Option<Reason>,
         event: Option<Event>,

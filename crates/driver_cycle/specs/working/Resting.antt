@@ -20,7 +20,7 @@ HasNotRested a b = parker_view b.own ≡ parker_view a.own
 abbrev pub HasTurnedRan : BoardLayout → LoopState → LoopState → Type 0
 HasTurnedRan p s t = (node : ℕ) × HasTurnedOnce p s (Ran node) t
 
--- a node ran in the turn of one of these loops
+-- so it was in the turn of one of these loops
 pub record HasOneRan (p : BoardLayout) (old new : List LoopState) : Type 0 where
   pub index : ℕ
   pub inside : index < length old
