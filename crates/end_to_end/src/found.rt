@@ -2,7 +2,7 @@
 
 use pw_lists::{Items, Memory};
 use pw_outside::{MemSink, Never, Open};
-use pw_top::{Found, Ran, Store, Work, run_words_with};
+use pw_top::{Found, Ran, Work, run_words_with};
 use row_files::{S_WAV, SURE, add, files_of, words_of};
 use std::sync::Wait;
 use std::test::Fail;
@@ -77,8 +77,10 @@ fn a_script_that_was_read_is_found_whatever_is_wrong_with_it(rt: HostRuntime) ->
 // Whether work is one store of the sink, and this text.
 fn is_work(work: &Work, text: &Items<u8>) -> bool {
     match work.stores.as_slice() {
-        [Store { place: 3, name, .. }] => {
-            name.as_slice() == b"o.wav".as_slice() && work.text.as_slice() == text.as_slice()
+        [store] => {
+            store.place == 3
+                && store.name.as_slice() == b"o.wav".as_slice()
+                && work.text.as_slice() == text.as_slice()
         }
         _ => false,
     }
