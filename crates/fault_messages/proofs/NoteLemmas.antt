@@ -1,7 +1,7 @@
 -- Laws of `specs/LinkNotes.antt`, `specs/SinkNotes.antt` and `specs/Makers.antt`: lines one by one.
 use Rattle.std.proofs.Common.{◌≡◌, ℕ, suc, ◌+◌, ◌-◌, ◌<◌, Bool, false, cond, Some, List, [], ◌∷◌, ◌++◌, take, find, sym, ap, ◌∙◌, arith}
 use Rattle.std.proofs.lemmas.List.{append-nil, append_assoc}
-use Rattle.run_results.specs.declared.work.Work.{Work}
+use Rattle.command_frame.specs.declared.work.Work.{Work}
 use Rattle.fault_messages.specs.LinkNotes.{link_part, told_behind, link_notes}
 use Rattle.fault_messages.specs.SinkNotes.{sink_part, sink_notes}
 

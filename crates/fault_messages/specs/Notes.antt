@@ -2,7 +2,7 @@
 -- did. Source: this project's own.
 use Rattle.std.specs.Prelude.{ℕ, ◌||◌, List, [], ◌++◌, codes, bytes_eq, Option, Some, None, if◌then◌else◌}
 use Rattle.graph_script.specs.Lexical.{lines_of, words_of}
-use Rattle.run_results.specs.declared.work.Work.{Work}
+use Rattle.command_frame.specs.declared.work.Work.{Work}
 use Rattle.shown_words.specs.Escaping.{escaped}
 use Rattle.fault_messages.specs.KeyNames.{key_clash}
 use Rattle.fault_messages.specs.LinkNotes.{link_notes}

@@ -2,7 +2,7 @@
 -- Source: this project's own.
 use Rattle.std.specs.Prelude.{ℕ, ◌&&◌, Bool, List, [], ◌++◌, codes, bytes_eq, nat_lt, if◌then◌else◌}
 use Rattle.std.specs.List.{list_any}
-use Rattle.run_results.specs.declared.work.Store.{Store}
+use Rattle.command_frame.specs.declared.work.Store.{Store}
 use Rattle.fault_messages.specs.Places.{Words, quoted}
 use Rattle.fault_messages.specs.SuchLines.{has_line}
 use Rattle.fault_messages.specs.ReportedLines.{note_at}

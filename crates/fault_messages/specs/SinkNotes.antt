@@ -2,8 +2,8 @@
 -- words. Source: this project's own.
 use Rattle.std.specs.Prelude.{ℕ, ◌+◌, ℤ, Bool, List, [], ◌∷◌, ◌++◌, codes, bytes_eq, Option, Some, None, if◌then◌else◌}
 use Rattle.graph_script.specs.Lexical.{words_of}
-use Rattle.run_results.specs.declared.work.Store.{Store}
-use Rattle.run_results.specs.declared.work.Work.{Work}
+use Rattle.command_frame.specs.declared.work.Store.{Store}
+use Rattle.command_frame.specs.declared.work.Work.{Work}
 use Rattle.fault_messages.specs.ClippedSinks.{clipped_note}
 use Rattle.fault_messages.specs.EmptySinks.{empty_note, still_note}
 use Rattle.fault_messages.specs.Places.{Words, word, quoted}

@@ -2,9 +2,9 @@
 -- whose samples are from -32768 to 32767.
 use Rattle.std.specs.Prelude.{ℕ, ◌==◌, ◌||◌, Bool, List, find, count_by, Option, Some, None}
 use Rattle.std.specs.Prelude.{ℤ, pos, neg_ℤ, int_le}
-use Rattle.run_results.specs.declared.work.Content.{Content}
-use Rattle.run_results.specs.declared.work.Content.TheVariants.{Bytes, Wave}
-use Rattle.run_results.specs.declared.work.Store.{Store}
+use Rattle.command_frame.specs.declared.work.Content.{Content}
+use Rattle.command_frame.specs.declared.work.Content.TheVariants.{Bytes, Wave}
+use Rattle.command_frame.specs.declared.work.Store.{Store}
 
 -- the store of a line
 abbrev pub store_at : List Store → ℕ → Option Store

@@ -39,8 +39,8 @@ use Rattle.cycle_model.specs.Rendering.{peak_at as peak_of_node}
 use Rattle.pw_lists.specs.Samples.{peak_of}
 use Rattle.pw_top.specs.declared.parted.Parted.{Parted}
 use Rattle.pw_top.specs.declared.loaded_script.LoadedScript.{LoadedScript}
-use Rattle.run_results.specs.declared.work.Content.TheVariants.{Wave}
-use Rattle.run_results.specs.declared.work.Store.{Store}
+use Rattle.command_frame.specs.declared.work.Content.TheVariants.{Wave}
+use Rattle.command_frame.specs.declared.work.Store.{Store}
 use Rattle.pw_top.specs.Allowed.{Reads}
 use Rattle.pw_top.specs.Answer.{Expected}
 use Rattle.pw_top.specs.Groups.{PartsTo, KeepsParts, PartsInputs}

@@ -3,8 +3,8 @@ use Rattle.std.proofs.Common.{◌≡◌, ℕ, zero, suc, ◌<◌, ◌≤◌, Boo
 use Rattle.std.specs.Prelude.{◌⊎◌, Some, None, Result, Ok, Err, MatchBool}
 use Rattle.run_results.specs.declared.status.Status.{Status}
 use Rattle.run_results.specs.declared.status.Status.TheVariants as S
-use Rattle.run_results.specs.declared.work.Store.{Store}
-use Rattle.run_results.specs.declared.work.Work.{Work}
+use Rattle.command_frame.specs.declared.work.Store.{Store}
+use Rattle.command_frame.specs.declared.work.Work.{Work}
 use Rattle.pw_outside.specs.Files.{Held}
 use Rattle.pw_outside.specs.Output.{Given, Gave, GavePart}
 use Rattle.pw_outside.specs.Causes.{Rose}

@@ -12,7 +12,7 @@ use Rattle.trace_check.proofs.FindingLemmas.{finding_one}
 use Rattle.run_results.specs.declared.found.What.{What}
 use Rattle.run_results.specs.declared.found.What.TheVariants.{Nothing, Check}
 use Rattle.pw_top.specs.declared.planned.Planned.{Planned}
-use Rattle.run_results.specs.declared.work.Work.{Work}
+use Rattle.command_frame.specs.declared.work.Work.{Work}
 use Rattle.pw_top.specs.Answer.{Answer, Expected}
 use Rattle.pw_top.specs.Allowed.{IsLoad}
 use Rattle.run_results.specs.Places.{trace_place}

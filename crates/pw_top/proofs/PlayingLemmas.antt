@@ -5,7 +5,7 @@ use Rattle.pw_outside.specs.Files.{Held}
 use Rattle.pw_outside.specs.Output.{Given}
 use Rattle.run_results.specs.declared.status.Status.{Status}
 use Rattle.run_results.specs.declared.status.Status.TheVariants as S
-use Rattle.run_results.specs.declared.work.Work.{Work}
+use Rattle.command_frame.specs.declared.work.Work.{Work}
 use Rattle.pw_top.specs.Answer.{Answer, Expected, gone_on}
 use Rattle.pw_top.specs.Allowed.{Binds}
 use Rattle.pw_top.specs.Allowed.Binds.{goes}

@@ -5,8 +5,8 @@ use Rattle.std.specs.Prelude.{Result, Ok, Err, All}
 use Rattle.std.proofs.lemmas.Option.{slice_get_within, get_or_from_slice_get}
 use Rattle.run_results.specs.declared.status.Status.{Status}
 use Rattle.run_results.specs.declared.status.Status.TheVariants as S
-use Rattle.run_results.specs.declared.work.Store.{Store}
-use Rattle.run_results.specs.declared.work.Work.{Work}
+use Rattle.command_frame.specs.declared.work.Store.{Store}
+use Rattle.command_frame.specs.declared.work.Work.{Work}
 use Rattle.pw_outside.specs.Files.{Held}
 use Rattle.pw_outside.specs.Output.{Given}
 use Rattle.pw_top.specs.working.Ending.{IsStorable, IsDeliverable}

@@ -6,7 +6,7 @@ use Rattle.pw_outside.specs.Output.{Given, GavePart}
 use Rattle.pw_outside.specs.Causes.{Rose}
 use Rattle.run_results.specs.declared.status.Status.{Status}
 use Rattle.run_results.specs.declared.status.Status.TheVariants as S
-use Rattle.run_results.specs.declared.work.Work.{Work}
+use Rattle.command_frame.specs.declared.work.Work.{Work}
 use Rattle.pw_top.specs.Answer.{Answer}
 use Rattle.pw_top.specs.Following.{status_of, stores_of, stored_all, text_of, AllStored, CutAt, GaveLine}
 use Rattle.pw_top.specs.FaultCauses.{Caused}

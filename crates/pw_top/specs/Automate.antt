@@ -18,8 +18,8 @@ use Rattle.wav_files.specs.WavReading.{wav_of}
 use Rattle.run_results.specs.declared.status.Status.{Status}
 use Rattle.run_results.specs.declared.status.Status.TheVariants as S
 use Rattle.run_results.specs.declared.status.PodWhy.TheVariants as P
-use Rattle.run_results.specs.declared.work.Content.TheVariants.{Wave}
-use Rattle.run_results.specs.declared.work.Work.{Work}
+use Rattle.command_frame.specs.declared.work.Content.TheVariants.{Wave}
+use Rattle.command_frame.specs.declared.work.Work.{Work}
 use Rattle.pw_top.specs.StatusLine.{numbers_line}
 use Rattle.pw_top.specs.Answer.{Answer}
 use Rattle.pw_top.specs.Allowed.{Binds, Reads, IsLoad}

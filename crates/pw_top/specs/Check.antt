@@ -13,7 +13,7 @@ use Rattle.trace_check.specs.Finding.{IsFindingOn}
 use Rattle.run_results.specs.Places.{trace_place}
 use Rattle.pw_top.specs.declared.planned.Planned.{Planned}
 use Rattle.run_results.specs.declared.status.Status.{Status}
-use Rattle.run_results.specs.declared.work.Work.{Work}
+use Rattle.command_frame.specs.declared.work.Work.{Work}
 use Rattle.pw_top.specs.Answer.{Answer}
 use Rattle.pw_top.specs.Allowed.{Binds, Reads, IsLoad}
 use Rattle.pw_top.specs.ScriptFile.{PlansFile}

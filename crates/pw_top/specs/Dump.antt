@@ -5,7 +5,7 @@ use Rattle.pw_outside.specs.Files.{Names}
 use Rattle.pw_lists.specs.declared.limit.Which.TheVariants as W
 use Rattle.pod_codec.specs.declared.pod.Pod.{Pod}
 use Rattle.pod_codec.specs.DumpText.{dump_text_of}
-use Rattle.run_results.specs.declared.work.Work.{Work}
+use Rattle.command_frame.specs.declared.work.Work.{Work}
 use Rattle.pw_top.specs.Answer.{Answer}
 use Rattle.pw_top.specs.Allowed.{Binds, Reads, IsLoad}
 use Rattle.pw_top.specs.PodFile.{pod_file_limit, HoldsPod}

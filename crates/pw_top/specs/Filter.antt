@@ -14,8 +14,8 @@ use Rattle.format_filter.specs.CommonFormat.{Filters}
 use Rattle.format_filter.specs.FormatWriting.{IsWritten}
 use Rattle.run_results.specs.declared.status.Status.{Status}
 use Rattle.run_results.specs.declared.status.Status.TheVariants as S
-use Rattle.run_results.specs.declared.work.Content.TheVariants.{Bytes}
-use Rattle.run_results.specs.declared.work.Work.{Work}
+use Rattle.command_frame.specs.declared.work.Content.TheVariants.{Bytes}
+use Rattle.command_frame.specs.declared.work.Work.{Work}
 use Rattle.pw_top.specs.StatusLine.{numbers_line}
 use Rattle.pw_top.specs.Answer.{Answer}
 use Rattle.pw_top.specs.Allowed.{Binds, Reads, IsLoad}

@@ -6,10 +6,10 @@ use Rattle.pw_outside.specs.Causes.{Rose}
 use Rattle.wav_files.specs.WavWriting.{wav_bytes}
 use Rattle.run_results.specs.declared.status.Status.{Status}
 use Rattle.run_results.specs.declared.status.Status.TheVariants as S
-use Rattle.run_results.specs.declared.work.Content.{Content}
-use Rattle.run_results.specs.declared.work.Content.TheVariants.{Bytes, Wave}
-use Rattle.run_results.specs.declared.work.Store.{Store}
-use Rattle.run_results.specs.declared.work.Work.{Work}
+use Rattle.command_frame.specs.declared.work.Content.{Content}
+use Rattle.command_frame.specs.declared.work.Content.TheVariants.{Bytes, Wave}
+use Rattle.command_frame.specs.declared.work.Store.{Store}
+use Rattle.command_frame.specs.declared.work.Work.{Work}
 use Rattle.pw_top.specs.Answer.{Answer}
 use Rattle.pw_top.specs.StatusLine.{line_of}
 

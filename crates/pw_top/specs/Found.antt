@@ -6,7 +6,7 @@ use Rattle.run_results.specs.declared.found.Found.{Found}
 use Rattle.run_results.specs.declared.found.What.TheVariants.{Nothing}
 use Rattle.run_results.specs.declared.status.Status.{Status}
 use Rattle.run_results.specs.declared.status.Status.TheVariants as S
-use Rattle.run_results.specs.declared.work.Work.{Work}
+use Rattle.command_frame.specs.declared.work.Work.{Work}
 use Rattle.pw_top.specs.ScriptFound.{IsScriptOf}
 use Rattle.pw_top.specs.Usage.{Words, command_of}
 use Rattle.pw_top.specs.WhatFound.{IsWhat}

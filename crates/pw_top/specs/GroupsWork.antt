@@ -9,7 +9,7 @@ use Rattle.driver_groups.specs.GroupRun.{AreRunsOf}
 use Rattle.pw_top.specs.declared.commands.groups.Grouping.{Grouping}
 use Rattle.pw_top.specs.declared.parted.Parted.{Parted}
 use Rattle.run_results.specs.declared.status.Status.{Status}
-use Rattle.run_results.specs.declared.work.Work.{Work}
+use Rattle.command_frame.specs.declared.work.Work.{Work}
 use Rattle.pw_top.specs.Answer.{Answer}
 use Rattle.pw_top.specs.Allowed.{Binds, Reads}
 use Rattle.pw_top.specs.Groups.{PartsFile, parts_outcome}

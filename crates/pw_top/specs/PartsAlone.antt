@@ -9,7 +9,7 @@ use Rattle.graph_plan.specs.PartLines.{part_lines}
 use Rattle.graph_plan.specs.Planned.{IsPlanned}
 use Rattle.cycle_model.specs.Rendering.{rendered_sinks, rendered_peaks}
 use Rattle.pw_top.specs.declared.parted.Parted.{Parted}
-use Rattle.run_results.specs.declared.work.Store.{Store}
+use Rattle.command_frame.specs.declared.work.Store.{Store}
 use Rattle.pw_top.specs.Groups.{parts_outcome}
 use Rattle.pw_top.specs.Joined.{kept_at, peak_at}
 use Rattle.pw_top.specs.SinkStores.{sink_store}

@@ -19,7 +19,7 @@ use Rattle.pw_top.specs.declared.playing.Crew.{Crew}
 use Rattle.run_results.specs.declared.status.Status.{Status}
 use Rattle.run_results.specs.declared.status.Status.TheVariants as S
 use Rattle.pw_top.specs.declared.inputs.PlanInputs.{PlanInputs}
-use Rattle.run_results.specs.declared.work.Work.{Work}
+use Rattle.command_frame.specs.declared.work.Work.{Work}
 use Rattle.pw_top.specs.Answer.{Answer, Expected}
 use Rattle.pw_top.specs.Allowed.{Binds, Reads}
 use Rattle.pw_top.specs.Playing.{Happened, HasRun}

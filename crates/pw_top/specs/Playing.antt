@@ -12,7 +12,7 @@ use Rattle.pw_top.specs.declared.played.Played.{Played}
 use Rattle.pw_top.specs.declared.playing.Crew.{Crew}
 use Rattle.run_results.specs.declared.status.Status.{Status}
 use Rattle.run_results.specs.declared.status.Status.TheVariants as S
-use Rattle.run_results.specs.declared.work.Work.{Work}
+use Rattle.command_frame.specs.declared.work.Work.{Work}
 use Rattle.pw_top.specs.Answer.{Answer}
 use Rattle.pw_top.specs.Crews.{seat_in, seats_beside}
 use Rattle.pw_top.specs.working.Ending.{IsEndOf}

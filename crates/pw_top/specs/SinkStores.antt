@@ -12,8 +12,8 @@ use Rattle.graph_script.specs.declared.command.Command.TheVariants as C
 use Rattle.graph_script.specs.declared.script.Line.{Line}
 use Rattle.graph_script.specs.Kinds.{made_by}
 use Rattle.cycle_model.specs.Rendering.{rendered_sinks}
-use Rattle.run_results.specs.declared.work.Content.TheVariants.{Wave}
-use Rattle.run_results.specs.declared.work.Store.{Store}
+use Rattle.command_frame.specs.declared.work.Content.TheVariants.{Wave}
+use Rattle.command_frame.specs.declared.work.Store.{Store}
 
 -- the line that makes a node as a sink
 abbrev pub makes_sink : ℕ → Option (ℕ × Kind) → Bool

@@ -8,7 +8,7 @@ use Rattle.soak_graph.specs.SoakScript.{soak_script}
 use Rattle.pw_top.specs.declared.planned.Planned.{Planned}
 use Rattle.pw_top.specs.declared.playing.Crew.{Crew}
 use Rattle.run_results.specs.declared.status.Status.{Status}
-use Rattle.run_results.specs.declared.work.Work.{Work}
+use Rattle.command_frame.specs.declared.work.Work.{Work}
 use Rattle.pw_top.specs.Answer.{Answer, Expected}
 use Rattle.pw_top.specs.Allowed.{Binds, Reads}
 use Rattle.pw_top.specs.PlannedWork.{PlansPorts, rendered}

@@ -1,9 +1,11 @@
 //! What a run found, beyond its report.
 
-use crate::work::Work;
-use pw_graph::Event;
-use pw_lists::Text;
+use command_frame::Work;
+use graph_script::Script;
+use pw_graph::{Event, Plan};
+use pw_lists::{Items, Text};
 use trace_check::Reason;
+use wav_files::Peak;
 
 /// What a run found, beyond its report: for sentences and notes.
 #[derive(Drop)]
@@ -17,15 +19,29 @@ pub struct Found {
 }
 
 /// What a command found, where all was done.
-#[derive(Clone, Copy, Debug, PartialEq, Eq, Drop)]
+#[derive(Drop)]
 pub enum What {
-    /// The command finds nothing, or a line of the trace is of no event, or not all was done.
+    /// The command finds nothing, or not all was done.
     Nothing,
-    /// Of `check`: why the events of the trace are no legal history of the script's plan, and the
-    /// event at that place, where the trace does not end before it. Nodes are counted from 0, as
-    /// the script makes them; 63 is the dummy. Both are `None` where the events are legal.
+    /// Of `run` and of `groups`: the script that was run, its plan, whose `lines` say what each
+    /// `link` and `unlink` line did, and the peaks of the meters that have a format at its end,
+    /// ascending by node. The plan of `groups` has all nodes and lines, and no epochs.
+    Run {
+        script: Script,
+        plan: Plan,
+        peaks: Items<Peak>,
+    },
+    /// Of `check`: the names of the script's nodes, by number; why the events of the trace are no
+    /// legal history of its plan, and the event at that place, where the trace does not end before
+    /// it. Both are `None` where the events are legal. Node 63 is the dummy.
     Check {
+        names: Items<Text>,
         reason: Option<Reason>,
         event: Option<Event>,
     },
+    /// Of `check`: the first line of the trace that is of no event, counted from 1.
+    NoEvent { number: u64 },
+    /// Of `filter`: the first key under which the two objects have nothing in common; `None` where
+    /// they are of different types.
+    Clash { key: Option<u32> },
 }

@@ -1,11 +1,10 @@
-//! How a call of `pipegraph` ended, what it found, and what it stored and put: the types that
-//! `pw_top` answers by, for whoever says in words what they mean.
+//! How a call of `pipegraph` ended, and what it found: the types that `pw_top` answers by, for
+//! whoever says in words what they mean. What it stored and put is the work of `command_frame`.
 #![tactic(auto)]
 
 mod found;
 mod status;
-mod work;
 
+pub use command_frame::{Content, Store, Work};
 pub use found::{Found, What};
 pub use status::{PodWhy, Status};
-pub use work::{Content, Store, Work};

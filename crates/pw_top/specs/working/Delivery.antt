@@ -6,8 +6,8 @@ use Rattle.pw_outside.specs.Output.{Given, Gave, GavePart}
 use Rattle.pw_outside.specs.Causes.{Rose}
 use Rattle.run_results.specs.declared.status.Status.{Status}
 use Rattle.run_results.specs.declared.status.Status.TheVariants as S
-use Rattle.run_results.specs.declared.work.Store.{Store}
-use Rattle.run_results.specs.declared.work.Work.{Work}
+use Rattle.command_frame.specs.declared.work.Store.{Store}
+use Rattle.command_frame.specs.declared.work.Work.{Work}
 use Rattle.pw_top.specs.working.Ending.{IsDeliverable}
 use Rattle.pw_top.specs.StatusLine.{line_of, has_line}
 use Rattle.pw_top.specs.Following.{AllStored, CutAt, GaveLine}

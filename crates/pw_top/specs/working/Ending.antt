@@ -5,10 +5,10 @@ use Rattle.pw_outside.specs.Causes.{Rose}
 use Rattle.wav_files.specs.WavWriting.{IsWave}
 use Rattle.run_results.specs.declared.status.Status.{Status}
 use Rattle.run_results.specs.declared.status.Status.TheVariants as S
-use Rattle.run_results.specs.declared.work.Content.{Content}
-use Rattle.run_results.specs.declared.work.Content.TheVariants.{Bytes, Wave}
-use Rattle.run_results.specs.declared.work.Store.{Store}
-use Rattle.run_results.specs.declared.work.Work.{Work}
+use Rattle.command_frame.specs.declared.work.Content.{Content}
+use Rattle.command_frame.specs.declared.work.Content.TheVariants.{Bytes, Wave}
+use Rattle.command_frame.specs.declared.work.Store.{Store}
+use Rattle.command_frame.specs.declared.work.Work.{Work}
 use Rattle.pw_top.specs.Answer.{Expected}
 
 -- the result is the expected one, or a load of it failed, or memory was short

@@ -5,7 +5,7 @@
 ghost use Rattle.std.specs.Prelude.{◌≡◌, [], ◌∷◌, ◌++◌, codes, Ok, IfOk};
 ghost use Rattle.format_filter.specs.declared.common.Filtered.TheVariants.{Common};
 ghost use Rattle.format_filter.specs.CommonFormat.{IsSoundFormat};
-ghost use Rattle.run_results.specs.declared.work.Content.TheVariants as C;
+ghost use Rattle.command_frame.specs.declared.work.Content.TheVariants as C;
 ghost use Rattle.pw_top.specs.StatusLine.{numbers_line};
 ghost use Rattle.pw_top.specs.working.Ending.{Ends, CommandCause, IsDeliverable};
 ghost use Rattle.pw_top.specs.working.Preparing.{LoadsOnly, Tells};

@@ -1,7 +1,7 @@
 use Rattle.std.proofs.Common.{subst, Ok}
 use Rattle.pw_outside.specs.Files.{names_in}
 use Rattle.format_filter.specs.declared.format.Format.{Format}
-use Rattle.run_results.specs.declared.work.Work.{Work}
+use Rattle.command_frame.specs.declared.work.Work.{Work}
 use Rattle.pw_top.specs.working.Ending.{Ends, IsDeliverable}
 use Rattle.pw_top.specs.Allowed.{Reads}
 use Rattle.pw_top.specs.FormatFile.{HoldsFormat}

@@ -5,7 +5,7 @@ use Rattle.std.specs.Prelude.{Result, Ok, Err}
 use Rattle.pw_outside.specs.Files.{names_in}
 use Rattle.run_results.specs.declared.found.What.TheVariants.{Nothing}
 use Rattle.run_results.specs.declared.status.Status.{Status}
-use Rattle.run_results.specs.declared.work.Work.{Work}
+use Rattle.command_frame.specs.declared.work.Work.{Work}
 use Rattle.pw_top.specs.working.Ending.{CommandCause, IsDeliverable}
 use Rattle.pw_top.specs.Playing.{happened}
 use Rattle.pw_top.specs.Dump.{IsDumpAnswer}
