@@ -4,6 +4,7 @@ pub mod AllowedLemmas
 pub mod AutomateLemmas
 pub mod CommandLineLemmas
 pub mod FormatFileLemmas
+pub mod FilterFoundLemmas
 pub mod FoundLemmas
 pub mod GroupsLemmas
 pub mod HeadlineLemmas
@@ -21,6 +22,7 @@ pub mod OneSoakLemmas
 pub mod PieceLemmas
 pub mod PlanWorkLemmas
 pub mod PlayingLemmas
+pub mod RunFoundLemmas
 pub mod PrintableLemmas
 pub mod PodFileLemmas
 pub mod StatusLineLemmas

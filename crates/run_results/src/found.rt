@@ -40,8 +40,12 @@ pub enum What {
         event: Option<Event>,
     },
     /// Of `check`: the first line of the trace that is of no event, counted from 1.
-    NoEvent { number: u64 },
+    NoEvent {
+        number: u64,
+    },
     /// Of `filter`: the first key under which the two objects have nothing in common; `None` where
     /// they are of different types.
-    Clash { key: Option<u32> },
+    Clash {
+        key: Option<u32>,
+    },
 }
