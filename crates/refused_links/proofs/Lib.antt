@@ -1,0 +1,4 @@
+pub mod PartingLemmas
+pub mod RefusedLemmas
+pub mod LinesLemmas
+pub mod OneAnswerLemmas
