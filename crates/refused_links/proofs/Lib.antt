@@ -1,3 +1,4 @@
+pub mod HeldLemmas
 pub mod PartingLemmas
 pub mod RefusedLemmas
 pub mod LinesLemmas

@@ -1,6 +1,6 @@
 -- A script refuses just these links: what a port offers is one thing, and so is what a line does.
-use Rattle.std.proofs.Common.{◌≡◌, ℕ, List, [], ◌∷◌, ◌++◌, Option, Some, None, refl, sym, ap, ◌∙◌, subst, arith}
-use Rattle.std.specs.Prelude.{option_to_list}
+use Rattle.std.proofs.Common.{◌≡◌, ℕ, List, [], ◌∷◌, ◌++◌, Option, Some, None, refl, sym, ap, ap₂, ◌∙◌, subst, arith}
+use Rattle.std.specs.Prelude.{option_map, option_to_list}
 use Rattle.std.proofs.lemmas.Option.{same_Some, none-some}
 use Rattle.pw_graph.specs.declared.ids.PortId.{PortId}
 use Rattle.pw_graph.specs.declared.kind.Kind.{Kind}
@@ -13,7 +13,14 @@ use Rattle.graph_script.specs.Kinds.{HasKinds, HasPorts}
 use Rattle.graph_script.specs.Making.{NamesMade, grown}
 use Rattle.graph_script.specs.Ranges.{HasRanges}
 use Rattle.port_model.specs.declared.port_state.Node.{Node}
+use Rattle.port_model.specs.declared.port_state.PortState.{PortState}
 use Rattle.port_model.specs.declared.sharing.Offered.{Offered}
+use Rattle.port_model.specs.declared.sharing.Offered.TheVariants.{Offer, Nothing}
+use Rattle.port_model.specs.Forms.{IsForm}
+use Rattle.port_model.specs.Offers.{int_of}
+use Rattle.port_model.specs.PortState.{AtPort}
+use Rattle.port_model.proofs.NodeLemmas.{at_port}
+use Rattle.format_filter.specs.declared.choice.Choice.{Choice}
 use Rattle.link_negotiation.proofs.MayBeGivenLemmas.{IsThere, there}
 use Rattle.graph_lines.specs.declared.graph.Graph.{Graph}
 use Rattle.graph_lines.specs.Start.{kinds_of}
@@ -29,15 +36,53 @@ use Rattle.graph_plan.proofs.sound.StepLemmas.{IsGoodLine, AreGoodLines, good_fi
 use Rattle.refused_links.specs.declared.refused_link.RefusedLink.{RefusedLink}
 use Rattle.refused_links.specs.declared.refused_link.Sides.{Sides}
 use Rattle.refused_links.specs.Refused.{IsRefusedLink, LinkAdds, Adds, Refuses, AreRefusedLinks}
-use Rattle.refused_links.specs.Sides.{sides_of, HasSides}
+use Rattle.refused_links.specs.declared.refused_link.Sides.TheVariants as S
+use Rattle.refused_links.specs.Sides.{choice_at, number_at, HasNumber, TellsNode, Tells, HasSides}
 use Rattle.refused_links.proofs.PartingLemmas.{offered_one}
 
-sides_one : (nodes : List Node) (from to : PortId) → IsThere nodes from → IsThere nodes to → (key : ℕ) (x y : Sides) → HasSides nodes from to key x
-    → HasSides nodes from to key y → x ≡ y
-sides_one nodes from to s t key x y h k =
-    let own : h.0 ≡ k.0 = offered_one nodes from s h.0 k.0 h.2 k.2 in
-    let other : h.1 ≡ k.1 = offered_one nodes to t h.1 k.1 h.3 k.3 in
-    h.5 ∙ (ap (λ (o : Offered). sides_of from to o h.1 key) own ∙ (ap (λ (o : Offered). sides_of from to k.0 o key) other ∙ sym k.5))
+-- WHAT IS TOLD OF A PORT that offers nothing
+form_one : (node : Node) (s : PortState) (x y : Option (ℕ × ℕ)) → IsForm node s x → IsForm node s y → x ≡ y
+form_one node s None None h k = refl
+form_one node s None (Some g) h k = absurd (h g.0 g.1 k)
+form_one node s (Some f) None h k = absurd (k f.0 f.1 h)
+form_one node s (Some f) (Some g) h k =
+    let rates : int_of f.0 ≡ int_of g.0 = same_Some (int_of f.0) (int_of g.0) (sym h.0 ∙ k.0) in
+    let channels : int_of f.1 ≡ int_of g.1 = same_Some (int_of f.1) (int_of g.1) (sym h.1 ∙ k.1) in
+    let rate : f.0 ≡ g.0 = cc in
+    let channel : f.1 ≡ g.1 = cc in
+    ap₂ (λ (a b : ℕ). Some (a, b)) rate channel
+
+module _ (nodes : List Node) (at : PortId) (t : IsThere nodes at) (key : ℕ) where
+  own_one : (a b : Option Choice) → AtPort nodes at (λ node s. a ≡ choice_at s.own key) → AtPort nodes at (λ node s. b ≡ choice_at s.own key) → a ≡ b
+  own_one a b h k = at_port (λ (node : Node) (s : PortState). a ≡ choice_at s.own key) nodes at t.node t.state t.node_is t.state_is h
+      ∙ sym (at_port (λ (node : Node) (s : PortState). b ≡ choice_at s.own key) nodes at t.node t.state t.node_is t.state_is k)
+
+  number_one : (a b : Option ℕ) → HasNumber nodes at key a → HasNumber nodes at key b → a ≡ b
+  number_one a b h k =
+      let same : h.0 ≡ k.0 = form_one t.node t.state h.0 k.0
+      (at_port (λ (node : Node) (s : PortState). IsForm node s h.0) nodes at t.node t.state t.node_is t.state_is h.1)
+      (at_port (λ (node : Node) (s : PortState). IsForm node s k.0) nodes at t.node t.state t.node_is t.state_is k.1) in
+      h.2 ∙ (ap (λ (o : Option (ℕ × ℕ)). option_map (number_at key) o) same ∙ sym k.2)
+
+  node_one : (x y : Sides) → TellsNode nodes at key x → TellsNode nodes at key y → x ≡ y
+  node_one (S.Both a b) y h k = absurd h
+  node_one (S.Node p o n) (S.Both a b) h k = absurd k
+  node_one (S.Node p o n) (S.Node q v m) h k = ap (λ (z : PortId). S.Node z o n) (h.0 ∙ sym k.0)
+      ∙ (ap (λ (z : Option Choice). S.Node q z n) (own_one o v h.1 k.1) ∙ ap (λ (z : Option ℕ). S.Node q v z) (number_one n m h.2 k.2))
+
+-- WHAT IS TOLD OF BOTH
+module _ (nodes : List Node) (from to : PortId) (s : IsThere nodes from) (t : IsThere nodes to) (key : ℕ) where
+  tells_one : (own other : Offered) (x y : Sides) → Tells nodes from to own other key x → Tells nodes from to own other key y → x ≡ y
+  tells_one (Nothing k) other x y h g = node_one nodes from s key x y h g
+  tells_one (Offer f) (Nothing k) x y h g = node_one nodes to t key x y h g
+  tells_one (Offer f) (Offer g) x y h k = h ∙ sym k
+
+  sides_one : (x y : Sides) → HasSides nodes from to key x → HasSides nodes from to key y → x ≡ y
+  sides_one x y h k =
+      let own : k.0 ≡ h.0 = offered_one nodes from s k.0 h.0 k.2 h.2 in
+      let other : k.1 ≡ h.1 = offered_one nodes to t k.1 h.1 k.3 h.3 in
+      tells_one h.0 h.1 x y h.5 (subst (λ (p : Offered). Tells nodes from to h.0 p key y) other
+      (subst (λ (o : Offered). Tells nodes from to o k.1 key y) own k.5))
 
 -- ONE LINE
 module _ (g after : Graph) (number : ℕ) (from to : PortId) (s : IsThere g.ports from) (t : IsThere g.ports to) where

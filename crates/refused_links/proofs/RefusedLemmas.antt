@@ -2,9 +2,7 @@
 -- negotiate no format.
 use Rattle.std.proofs.Common.{◌≡◌, ℕ, ◌<◌, List, [], ◌∷◌, ◌++◌, length, Option, Some, None, refl, sym, ap, ◌∙◌, subst, arith}
 use Rattle.std.specs.Prelude.{slice_get, option_and_then}
-use Rattle.std.specs.Option.{option_map_or}
 use Rattle.std.proofs.lemmas.Option.{same_Some, none-some}
-use Rattle.pw_graph.specs.KindPorts.{input_count, port_count}
 use Rattle.pw_graph.specs.declared.ids.PortId.{PortId}
 use Rattle.pw_graph.specs.declared.plan.LineOutcome.{LineOutcome}
 use Rattle.pw_graph.specs.declared.plan.LineOutcome.TheVariants as O
@@ -13,13 +11,14 @@ use Rattle.wav_files.specs.declared.wav.WavIn.{WavIn}
 use Rattle.graph_script.specs.declared.command.Command.{Command}
 use Rattle.graph_script.specs.declared.command.Command.TheVariants as C
 use Rattle.port_model.specs.declared.port_state.Node.{Node}
-use Rattle.port_model.specs.PortState.{IsPort, IsInput, IsOutput}
+use Rattle.port_model.specs.PortState.{IsInput, IsOutput}
 use Rattle.link_negotiation.specs.declared.common_formats.Negotiated.TheVariants as negotiated
 use Rattle.link_negotiation.specs.declared.negotiation.Linked.{Linked}
 use Rattle.link_negotiation.specs.declared.negotiation.Linked.TheVariants as L
 use Rattle.link_negotiation.specs.LinkOutcome.{IsLinkOutcome, LeavesLink}
 use Rattle.link_negotiation.specs.Negotiation.{Negotiates}
 use Rattle.link_negotiation.proofs.MayBeGivenLemmas.{there}
+use Rattle.link_negotiation.proofs.UnlinkLemmas.{input_there}
 use Rattle.graph_lines.specs.declared.graph.Graph.{Graph}
 use Rattle.graph_lines.specs.declared.graph.Stepped.{Stepped}
 use Rattle.graph_lines.specs.Conditions.{MayStep}
@@ -31,13 +30,6 @@ use Rattle.refused_links.specs.declared.refused_link.RefusedLink.{RefusedLink}
 use Rattle.refused_links.specs.Refused.{key_in, noted_key, LinkAdds, Adds}
 use Rattle.refused_links.specs.working.Finding.{ShowsSides, FindsLink, Finds}
 use Rattle.refused_links.proofs.PartingLemmas.{sides_part}
-
--- an input is a port
-input_is_port : (nodes : List Node) (port : PortId) → IsInput nodes port → IsPort nodes port
-input_is_port nodes port h = go (slice_get nodes port.node) h where
-  go : (o : Option Node) → port.port < option_map_or (λ n. input_count n.kind) o 0 → port.port < option_map_or (λ n. port_count n.kind) o 0
-  go None h = h
-  go (Some node) h = omega (arith, h)
 
 -- behind a list there is nothing
 behind : {X : Type 0} (xs : List X) → slice_get xs (length xs) ≡ None
@@ -88,7 +80,7 @@ module _ (g after : Graph) (from to : PortId) where
           to = f.to;
           noted = f.noted;
           sides = sides_part g.ports from to (there g.ports from ready.nodes.ports output.1)
-              (there g.ports to ready.nodes.ports (input_is_port g.ports to input)) r.key r.sides w.1
+              (there g.ports to ready.nodes.ports (input_there g.ports to input)) r.key r.sides w.1
               (subst (λ (nodes : List Node). ShowsSides nodes from to r.key r.sides) w.0 f.sides);
         }
 

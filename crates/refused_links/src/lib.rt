@@ -5,7 +5,9 @@
 //! choices of both under that key. `put_choice` has a choice in words, as `44100 or 48000`.
 #![tactic(auto)]
 
+mod choices;
 mod finding;
+mod held;
 mod lines;
 mod noting;
 mod refused_link;

@@ -26,7 +26,11 @@ pub enum Sides {
         from: Option<Choice>,
         to: Option<Choice>,
     },
-    /// This port offers nothing: its own offer does not admit the value that its node shares at the
-    /// key.
-    Node { port: PortId },
+    /// This port offers nothing: its own offer, which admits `own` at the key, does not admit the
+    /// value that its node shares there, which is `shared`.
+    Node {
+        port: PortId,
+        own: Option<Choice>,
+        shared: Option<u32>,
+    },
 }

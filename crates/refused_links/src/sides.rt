@@ -1,59 +1,51 @@
-//! What two ports admit at a key.
+//! What is told of two ports that part at a key.
 ghost use Rattle.std.specs.Prelude.{◌≡◌, IfOk};
-ghost use Rattle.std.specs.Option.{option_copied};
-ghost use Rattle.format_filter.specs.CommonFormat.{field_of};
-ghost use Rattle.port_model.specs.PortState.{IsInput, IsOutput};
-ghost use Rattle.refused_links.specs.Sides.{choice_at, sides_of};
+ghost use Rattle.port_model.specs.PortState.{IsPort, IsInput, IsOutput};
+ghost use Rattle.refused_links.specs.Sides.{both_sides, Tells};
 ghost use Rattle.refused_links.specs.working.Finding.{ShowsSides};
 
+use crate::choices::choice_at;
+use crate::held::node_side;
 use crate::refused_link::Sides;
-use format_filter::{Choice, Field, Format};
+use format_filter::Format;
 use port_model::{Offered, Ports};
 use pw_graph::PortId;
 use pw_lists::Memory;
 use std::alloc::Global;
 
-// The field of a key.
-fn field_at(fields: &[Field], key: u32) -> Option<&Field>
-    ensures { option_copied result ≡ field_of fields.now key }
+// What two offers admit at a key.
+fn both_sides(alloc: Global, own: &Format, other: &Format, key: u32) -> Result<Sides, Memory>
+    ensures { IfOk result (λ sides. sides ≡ both_sides own.now other.now key) }
 {
-    fields.iter().find(|field| field.key == key)
+    let from = choice_at(alloc, own, key)?;
+    let to = choice_at(alloc, other, key)?;
+    Ok(Sides::Both { from, to })
 }
 
-// What an offer admits at a key, if it has the key.
-fn choice_at(alloc: Global, offer: &Format, key: u32) -> Result<Option<Choice>, Memory>
-    ensures { IfOk result (λ choice. choice ≡ choice_at offer.now key) }
-{
-    match field_at(offer.fields.as_slice(), key) {
-        Some(field) => Ok(Some(field.choice.copy(alloc)?)),
-        None => Ok(None),
-    }
-}
-
-// What is said of the two ports, by what each offers.
+// What is told of the two ports, by what each offers.
 fn sides_of(
     alloc: Global,
+    ports: &Ports,
     from: PortId,
     to: PortId,
     own: &Offered,
     other: &Offered,
     key: u32,
 ) -> Result<Sides, Memory>
-    ensures { IfOk result (λ sides. sides ≡ sides_of from to own.now other.now key) }
+    requires from { IsPort ports.now from }
+    requires to { IsPort ports.now to }
+    ensures { IfOk result (Tells ports.now from to own.now other.now key) }
 {
     match own {
-        Offered::Nothing { .. } => Ok(Sides::Node { port: from }),
+        Offered::Nothing { .. } => node_side(alloc, ports, from, key),
         Offered::Offer(first) => match other {
-            Offered::Nothing { .. } => Ok(Sides::Node { port: to }),
-            Offered::Offer(second) => Ok(Sides::Both {
-                from: choice_at(alloc, first, key)?,
-                to: choice_at(alloc, second, key)?,
-            }),
+            Offered::Nothing { .. } => node_side(alloc, ports, to, key),
+            Offered::Offer(second) => both_sides(alloc, first, second, key),
         },
     }
 }
 
-/// What an output and an input port admit at a key.
+/// What is told of an output and an input port that part at a key.
 pub(crate) fn sides_at(
     alloc: Global,
     ports: &Ports,
@@ -67,5 +59,5 @@ pub(crate) fn sides_at(
 {
     let own = ports.offered(alloc, from)?;
     let other = ports.offered(alloc, to)?;
-    sides_of(alloc, from, to, &own, &other, key)
+    sides_of(alloc, ports, from, to, &own, &other, key)
 }

@@ -47,7 +47,7 @@ enum Admits {
 #[derive(Clone, Copy, Debug, PartialEq, Eq, Drop)]
 enum Pair {
     Both(Admits, Admits),
-    Node(PortId),
+    Node(PortId, Admits, Option<u32>),
 }
 
 /// What is told of a refused link.
@@ -134,7 +134,7 @@ fn admits(side: &Option<Choice>) -> Admits {
 fn told(link: &RefusedLink) -> Told {
     let sides = match &link.sides {
         Sides::Both { from, to } => Pair::Both(admits(from), admits(to)),
-        Sides::Node { port } => Pair::Node(*port),
+        Sides::Node { port, own, shared } => Pair::Node(*port, admits(own), *shared),
     };
     Told {
         line: link.line,
@@ -259,7 +259,7 @@ fn a_key_that_an_offer_lacks_is_told_as_before(rt: HostRuntime) {
 
 // A gain shares its rate: 44100 comes in, and its output was narrowed to 48000.
 #[test]
-fn a_port_at_odds_with_its_node_is_named(rt: HostRuntime) {
+fn a_port_at_odds_with_its_node_is_told(rt: HostRuntime) {
     let text = "source s s.wav\ngain g 256\noffer g out f.pod\nmeter p\n\
         link s.out g.in\nlink g.out p.in\n";
     let came = comes_offered(rt.alloc(), text, [Voice::Mono44100].as_slice());
@@ -269,7 +269,7 @@ fn a_port_at_odds_with_its_node_is_named(rt: HostRuntime) {
         from: at(1, 1),
         to: at(2, 0),
         key: RATE,
-        sides: Pair::Node(at(1, 1)),
+        sides: Pair::Node(at(1, 1), Admits::Only(48_000), Some(44_100)),
     };
     assert_eq!(rt; came, one(wanted));
 }
