@@ -16,11 +16,7 @@ fn field_at(fields: &[Field], key: u32) -> Option<&Field>
 }
 
 /// What an offer admits at a key, if it has the key.
-pub(crate) fn choice_at(
-    alloc: Global,
-    offer: &Format,
-    key: u32,
-) -> Result<Option<Choice>, Memory>
+pub(crate) fn choice_at(alloc: Global, offer: &Format, key: u32) -> Result<Option<Choice>, Memory>
     ensures { IfOk result (λ choice. choice ≡ choice_at offer.now key) }
 {
     match field_at(offer.fields.as_slice(), key) {

@@ -5,9 +5,10 @@ ghost use Rattle.script_inputs.specs.Inputs.{HasForm};
 
 use crate::{RefusedLink, Sides, put_choice, refused_links};
 use format_filter::{Choice, Format, Wide, format_of};
+use graph_plan::plan;
 use graph_script::parse;
 use pod_codec::{Pod, read_pod};
-use pw_graph::PortId;
+use pw_graph::{LineOutcome, LinkLine, PortId};
 use pw_lists::{Items, Memory, SCRIPT_BYTES_LIMIT, Text};
 use script_inputs::{Inputs, inputs_of};
 use std::alloc::Global;
@@ -66,8 +67,10 @@ struct Told {
 enum Came {
     /// It is no script, or has no inputs.
     NoScript,
-    /// How many refused links, and the last of them.
+    /// How many refused links, and the last of them. They are just those of the plan.
     Refused(usize, Option<Told>),
+    /// The plan has others.
+    Others,
 }
 
 // A wave of one frame of zeros.
@@ -121,7 +124,7 @@ fn rate_formats(alloc: Global) -> Option<Items<Format>>
 }
 
 // What a side admits.
-fn admits(side: &Option<Choice>) -> Admits {
+fn admitted(side: &Option<Choice>) -> Admits {
     match side {
         None => Admits::Nothing,
         Some(Choice::Only(Pod::Int(n))) => Admits::Only(*n),
@@ -131,10 +134,10 @@ fn admits(side: &Option<Choice>) -> Admits {
 }
 
 // What is told of a refused link.
-fn told(link: &RefusedLink) -> Told {
+fn told_of(link: &RefusedLink) -> Told {
     let sides = match &link.sides {
-        Sides::Both { from, to } => Pair::Both(admits(from), admits(to)),
-        Sides::Node { port, own, shared } => Pair::Node(*port, admits(own), *shared),
+        Sides::Both { from, to } => Pair::Both(admitted(from), admitted(to)),
+        Sides::Node { port, own, shared } => Pair::Node(*port, admitted(own), *shared),
     };
     Told {
         line: link.line,
@@ -149,8 +152,50 @@ fn told(link: &RefusedLink) -> Told {
 // What is told of the last one.
 fn last_told(links: &[RefusedLink]) -> Option<Told> {
     match links.last() {
-        Some(link) => Some(told(link)),
+        Some(link) => Some(told_of(link)),
         None => None,
+    }
+}
+
+// Whether a line of a plan is this link.
+fn is_line(line: &LinkLine, link: &RefusedLink) -> bool {
+    line.from == link.from
+        && line.to == link.to
+        && line.outcome == LineOutcome::NoFormat { key: link.key }
+}
+
+// Whether a line of a plan finds no common format.
+fn is_refused(line: &LinkLine) -> bool {
+    match line.outcome {
+        LineOutcome::NoFormat { .. } => true,
+        _ => false,
+    }
+}
+
+// Whether a link stands at its place among the lines of a plan.
+fn is_planned(lines: &[LinkLine], link: &RefusedLink) -> bool {
+    match lines.get(link.place) {
+        Some(line) => is_line(line, link),
+        None => false,
+    }
+}
+
+// Whether the lines of a plan that find no common format are just these links.
+fn are_planned(lines: &[LinkLine], links: &[RefusedLink]) -> bool {
+    for place in 0..lines.len() {
+        if is_refused(&lines[place]) && !links.iter().any(|link| link.place == place) {
+            return false;
+        }
+    }
+    links.iter().all(|link| is_planned(lines, link))
+}
+
+// What comes of refused links beside the lines of a plan.
+fn came_of(lines: &[LinkLine], links: &[RefusedLink]) -> Came {
+    if are_planned(lines, links) {
+        Came::Refused(links.len(), last_told(links))
+    } else {
+        Came::Others
     }
 }
 
@@ -170,9 +215,15 @@ fn refused_in(alloc: Global, text: &str, waves: Items<Wav>, formats: &[Format]) 
         return Came::NoScript;
     };
     let Inputs { ports, waves } = inputs;
-    match refused_links(alloc, &script, &waves, ports) {
-        Ok(links) => Came::Refused(links.len(), last_told(links.as_slice())),
-        Err(Memory) => Came::NoScript,
+    let Ok(copied) = ports.copy(alloc) else {
+        return Came::NoScript;
+    };
+    let Ok(links) = refused_links(alloc, &script, &waves, ports) else {
+        return Came::NoScript;
+    };
+    match plan(alloc, &script, &waves, copied) {
+        Ok(plan) => came_of(plan.lines.as_slice(), links.as_slice()),
+        Err(_fault) => Came::NoScript,
     }
 }
 

@@ -1,5 +1,5 @@
 -- The one format is sound.
-use Rattle.std.proofs.Common.{All, [], subst, sym, ap, ◌∙◌}
+use Rattle.std.proofs.Common.{All, subst, sym}
 use Rattle.std.proofs.lemmas.List.Elements.{All-push, All-nil}
 use Rattle.format_filter.specs.CommonFormat.{IsSoundFormat}
 use Rattle.refused_links.proofs.tests.rate_formats.Goals as goal

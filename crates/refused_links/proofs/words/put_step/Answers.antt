@@ -11,4 +11,4 @@ returns c =
     let said = subst (λ (word : List ℕ). OnOk c.put_after.result (c.put_after.new.text
     ≡ c.args.text.now ++ (word ++ signed_decimal (to_z w64 (of_z w64 c.args.step))))) c.as_slice.ensures c.put_after.ensures in
     subst (λ (n : ℤ). OnOk c.put_after.result (c.put_after.new.text ≡ c.args.text.now ++ step_words n))
-    (to_z-of_z w64 c.args.step c.ranges.step.sfits) said
+    (to_z-of_z w64 c.args.step c.ranges.step) said
