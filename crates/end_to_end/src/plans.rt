@@ -151,7 +151,7 @@ fn nothing_is_found_where_a_store_or_a_put_fails(rt: HostRuntime) -> Result<(), 
 }
 
 #[test]
-fn nothing_is_found_of_a_run_that_is_refused(rt: HostRuntime) -> Result<(), Fail> {
+fn nothing_is_found_of_a_soak_and_of_what_is_refused(rt: HostRuntime) -> Result<(), Fail> {
     for line in ["run none", "groups none", "soak 1"] {
         let what = found_by(&rt, line, PARTS, SAMPLES, SURE)?;
         assert!(rt; matches!(what, What::Nothing), "{line}");

@@ -11,6 +11,7 @@ pub mod HeadlineLemmas
 pub mod JoinedLemmas
 pub mod LoadsLemmas
 pub mod OneAnswerLemmas
+pub mod OneFilterFoundLemmas
 pub mod OneFoundLemmas
 pub mod OneGroupsLemmas
 pub mod OneLineLemmas
