@@ -15,7 +15,7 @@ fn is_shown(alloc: Global, word: &[u8], shown: &[u8]) -> Result<bool, Memory> {
 }
 
 /// Words, and how they are shown.
-const WORDS: [(&[u8], &[u8]); 9] = [
+const WORDS: [(&[u8], &[u8]); 12] = [
     (b"", b""),
     (b"vox 1.wav", b"vox 1.wav"),
     (b"\x1b[31ma\x7f\n", b"\\x1b[31ma\\x7f\\x0a"),
@@ -24,11 +24,14 @@ const WORDS: [(&[u8], &[u8]); 9] = [
     (b"\xe2\x82\x85\xc2", b"\xe2\x82\x85\xc2"),
     (b"a\\x41", b"a\\\\x41"),
     (b"\\\\", b"\\\\\\\\"),
-    (b"\xf4\x8f\xbf\xbf\xff", b"\xf4\x8f\xbf\xbf\xff"),
+    (b"\xf4\x8f\xbf\xbf\xff", b"\xf4\x8f\xbf\xbf\\xff"),
+    (b"\x9b31ma", b"\\x9b31ma"),
+    (b"\xc3\xa9\x9b\xe2\x82\xac\x80", b"\xc3\xa9\\x9b\xe2\x82\xac\\x80"),
+    (b"\xc0\xafa\xf5", b"\\xc0\\xafa\\xf5"),
 ];
 
 #[test]
-fn control_characters_and_backslashes_are_escaped(rt: HostRuntime) -> Result<(), Fail> {
+fn control_characters_stray_bytes_and_backslashes_are_escaped(rt: HostRuntime) -> Result<(), Fail> {
     for (word, shown) in WORDS {
         assert!(rt; is_shown(rt.alloc(), word, shown)?);
     }
