@@ -1,2 +1,3 @@
 pub mod NoteLemmas
 pub mod RoomLemmas
+pub mod WaveLemmas

@@ -1,8 +1,11 @@
 //! The samples that a sink stored, and how many of them are at a limit.
-ghost use Rattle.std.specs.Prelude.{◌≡◌, option_copied};
+ghost use Rattle.std.specs.Prelude.{◌≡◌, ◌<◌, ◌^◌, length, option_copied};
 ghost use Rattle.fault_messages.specs.SinkWaves.{samples_in, samples_at, is_at_limit, at_limit};
 
 use run_results::{Content, Store};
+
+/// So many samples are counted at once.
+const FEW_SAMPLES: usize = 32_768;
 
 // The samples of what was stored, where it is a wave.
 fn samples_in(content: &Content) -> Option<&[i16]>
@@ -35,13 +38,29 @@ fn is_at_limit(sample: i16) -> bool
     i16::MAX <= sample || sample <= i16::MIN
 }
 
+// How many of few samples are at a limit, counted in as many bits as a sample has.
+fn few_at_limit(samples: &[i16]) -> u16
+    requires { length samples.now < 2 ^ 16 }
+    ensures { result ≡ at_limit samples.now }
+{
+    let mut count: u16 = 0;
+    for sample in samples {
+        count += u16::from(is_at_limit(*sample));
+    }
+    count
+}
+
 /// How many samples are at a limit of 16 bits. Cost: one look at each.
+#[tactic(auto, using(crate::proofs::WaveLemmas::in_parts, crate::proofs::WaveLemmas::not_more))]
 pub fn at_limit(samples: &[i16]) -> u64
     ensures { result ≡ at_limit samples.now }
 {
     let mut count: u64 = 0;
-    for sample in samples {
-        count += u64::from(is_at_limit(*sample));
+    let mut rest = samples;
+    while FEW_SAMPLES < rest.len() {
+        let (few, more) = rest.split_at(FEW_SAMPLES);
+        count += u64::from(few_at_limit(few));
+        rest = more;
     }
-    count
+    count + u64::from(few_at_limit(rest))
 }

@@ -1,7 +1,10 @@
-use Rattle.std.proofs.Common.{◌≡◌, ◌≤◌, take}
+use Rattle.std.proofs.Common.{◌≡◌, ◌+◌, length}
 use Rattle.fault_messages.specs.SinkWaves.{at_limit}
 use Rattle.fault_messages.proofs.sink_waves.at_limit.Given as goal
 
--- how many of those before
-abbrev pub invariant-loop-sample : goal.invariant-loop-sample
-invariant-loop-sample l = (l.count ≡ at_limit (take l.sample-index l.samples)) × (l.count ≤ l.sample-index)
+-- the count so far, and what is left to count
+abbrev pub invariant-loop-rest : goal.invariant-loop-rest
+invariant-loop-rest l = l.count + at_limit l.rest ≡ at_limit l.fn.samples
+
+abbrev pub decreases-loop-rest : goal.decreases-loop-rest
+decreases-loop-rest l = length l.rest
