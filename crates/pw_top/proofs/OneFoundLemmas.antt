@@ -1,6 +1,6 @@
 -- ONE FINDING: what a command found is of what its answer stores and puts: of `check` the verdict in the text, of `run` and
 -- `groups` the plan and the peaks, of `filter` what its two formats have in common.
-use Rattle.std.proofs.Common.{◌≡◌, ℕ, List, [], map, refl, sym, ap, subst, ◌∙◌}
+use Rattle.std.proofs.Common.{◌≡◌, ℕ, List, [], map, refl, ap, subst, ◌∙◌}
 use Rattle.std.specs.Prelude.{Result, Ok}
 use Rattle.pw_lists.specs.declared.limit.Which.TheVariants as L
 use Rattle.pw_graph.specs.declared.shape.Shape.{Shape}
@@ -21,7 +21,7 @@ use Rattle.pw_top.specs.declared.parted.Parted.{Parted}
 use Rattle.pw_top.specs.declared.planned.Planned.{Planned}
 use Rattle.run_results.specs.declared.status.Status.{Status}
 use Rattle.command_frame.specs.declared.work.Work.{Work}
-use Rattle.pw_top.specs.Answer.{Answer, Expected}
+use Rattle.pw_top.specs.Answer.{Answer}
 use Rattle.pw_top.specs.Allowed.{Reads, IsLoad}
 use Rattle.run_results.specs.Places.{trace_place}
 use Rattle.pw_top.specs.Check.{trace_bytes_limit, check_work, FindsTrace, ChecksTrace, ChecksPlan, IsCheckAnswer}
@@ -34,7 +34,7 @@ use Rattle.pw_top.specs.PlannedWork.{plan_work, PlaysTo, PlaysPlan}
 use Rattle.pw_top.specs.Playing.{Happened}
 use Rattle.pw_top.specs.PodFile.{pod_file_limit}
 use Rattle.pw_top.specs.Run.{IsRunAnswer}
-use Rattle.pw_top.specs.RunFound.{plan_found, parts_found, IsFoundByRun, IsFoundByGroups}
+use Rattle.pw_top.specs.RunFound.{IsFoundOfPlan, parts_found, IsFoundByRun, IsFoundByGroups}
 use Rattle.pw_top.specs.ScriptFile.{PlansFile}
 use Rattle.pw_top.specs.CheckFound.{IsFoundIn, IsFoundUnder, IsFoundByCheck}
 use Rattle.pw_top.specs.working.Seen.{verdict_by}
@@ -56,7 +56,7 @@ says names known shapes bytes (Check same reason event) f h k =
     finding_one names known shapes bytes f (Events (verdict_by reason)) k (h.1, h.2, reason_verdict shapes h.1 reason h.3)
 says names known shapes bytes (NoEvent number) f h k = finding_one names known shapes bytes f (Line number) k h
 says names known shapes bytes Nothing f h k = h
-says names known shapes bytes (Run script plan peaks) f h k = h
+says names known shapes bytes (Run script plan peaks refused) f h k = h
 says names known shapes bytes (Clash key) f h k = h
 
 -- OF `check`
@@ -85,16 +85,16 @@ found_says names script trace what a work found allowed is =
 found_as : {T : Type 0} (F : T → What) (x y : T) (what : What) → what ≡ F x → x ≡ y → what ≡ F y
 found_as F x y what f same = f ∙ ap F same
 
--- OF `run`: the plan and the peaks are those of the work
+-- OF `run`: the plan, the peaks and the refused links are those of what gives the work
 pub run_says : (c : Running) (h : Happened) (names : Names) (what : What) (a : Answer) (work : Work) → IsFoundByRun names c.script what
-    → IsRunAnswer c h names a → a.outcome ≡ Ok work → (p : Planned) × (what ≡ plan_found p) × (work ≡ plan_work p c.trace h.history)
+    → IsRunAnswer c h names a → a.outcome ≡ Ok work → (p : Planned) × IsFoundOfPlan p what × (work ≡ plan_work p c.trace h.history)
 run_says c h names what a work found allowed is =
     let w = went (PlansFile names c.script) (PlaysPlan c.crew c.trace h) a work allowed is in
     let p = w.given in
     let same = gave_one (PlansFile names c.script) (file_one names c.script) found.planned p found.plan
     (record { part = w.first; allowed = w.allowed; gives = w.gave }) in
     let plays = part_gave [] (PlaysTo c.crew c.trace h p) w.rest work w.after w.gives in
-    (p, found_as plan_found found.planned p what found.found same, ok_is work (plan_work p c.trace h.history) (Ok work) refl plays.1)
+    (p, subst (λ (q : Planned). IsFoundOfPlan q what) same found.found, ok_is work (plan_work p c.trace h.history) (Ok work) refl plays.1)
 
 -- OF `groups`
 pub groups_says : (c : Grouping) (h : Happened) (names : Names) (what : What) (a : Answer) (work : Work) → IsFoundByGroups names c.script what
@@ -115,17 +115,17 @@ holds_one place bytes more f g same h k =
 filtered_says : (first second : Format) (out : List ℕ) (what : What) (outcome : Result Work Status) → IsFoundOf first second what
     → FiltersTo out first second outcome → (filtered : Filtered) × (what ≡ what_of filtered) × GivesFiltered out filtered outcome
 filtered_says first second out what outcome f to = (
-      to.0,
-      found_as what_of f.filtered to.0 what f.found (filters_one first second f.filtered to.0 f.filters to.1),
-      to.2,
-    )
+  to.0,
+  found_as what_of f.filtered to.0 what f.found (filters_one first second f.filtered to.0 f.filters to.1),
+  to.2,
+)
 
 pub filter_says : (names : Names) (a b out : List ℕ) (what : What) (e : Answer) (work : Work) → IsFoundByFilter names a b what
     → IsFilterAnswer names a b out e → e.outcome ≡ Ok work
     → (filtered : Filtered) × (what ≡ what_of filtered) × GivesFiltered out filtered (Ok work)
 filter_says names a b out what e work found allowed is =
     let load : (place : ℕ) (name : List ℕ) → HasOne (IsLoad names place name pod_file_limit L.PodBytes) =
-        λ place name. load_one names place name pod_file_limit L.PodBytes in
+    λ place name. load_one names place name pod_file_limit L.PodBytes in
     let w = went (IsLoad names 1 a pod_file_limit L.PodBytes) (ReadsFirst names b out) e work allowed is in
     let bytes = gave_one (IsLoad names 1 a pod_file_limit L.PodBytes) (load 1 a) found.first_held.bytes w.given found.first_held.load
     (record { part = w.first; allowed = w.allowed; gives = w.gave }) in
