@@ -1,12 +1,14 @@
-//! What a call finds of a run: its script, its plan and the peaks of its meters, each worked out by
-//! hand.
+//! What a call finds of a run: its script, its plan, the peaks of its meters, and what both sides of
+//! a refused link admit, each worked out by hand.
 
 use crate::finding::found_in;
 use crate::offers::{AT_44100, AT_48000};
 use pw_graph::{LineOutcome, LinkLine, Plan, PortId};
 use pw_lists::{Items, Memory, Text};
 use pw_top::What;
-use row_files::{FileRow, Faults, Held, SURE, files_of};
+use refused_links::{RefusedLink, Sides, put_choice};
+use row_files::{Faults, FileRow, Held, SURE, files_of};
+use std::alloc::Global;
 use std::sync::Wait;
 use std::test::Fail;
 use std::thread::Threads;
@@ -23,6 +25,10 @@ const FILES: &'static [FileRow<'static>] = &[("s.wav", AT_44100), ("f.pod", AT_4
 /// The same nodes, of which the sink keeps what the source has.
 const PARTS: &'static [u8] = b"quantum 4\nsquare q 48000 1 4 100\nmeter m\nsource s s.wav\n\
     sink o o.wav\nlink q.out m.in\nlink s.out o.in\ncycles 1\n";
+
+/// The same, which a run plans.
+const ALL_LINKED: &'static [u8] = b"quantum 4\nsquare q 48000 1 4 100\nmeter m\nsource s s.wav\n\
+    sink o o.wav\ndriver m 1\nlink q.out m.in\nlink s.out o.in\ncycles 1\n";
 
 /// Their file.
 const SAMPLES: &'static [FileRow<'static>] = &[("s.wav", Held::Mono(&[1, 2]))];
@@ -47,6 +53,7 @@ const SUNK: LinkLine = LinkLine {
     to: PortId { node: 3, port: 0 },
     outcome: LINKED,
 };
+
 const REFUSED: LinkLine = LinkLine {
     outcome: LineOutcome::NoFormat { key: 65_539 },
     ..SUNK
@@ -84,6 +91,21 @@ fn are_names(names: &Items<Text>) -> bool {
     }
 }
 
+// What both sides of a refused link admit, in words.
+fn both_sides(alloc: Global, link: &RefusedLink) -> Result<Text, Memory> {
+    let mut words = Items::new(alloc);
+    if let Sides::Both {
+        from: Some(from),
+        to: Some(to),
+    } = &link.sides
+    {
+        put_choice(&mut words, from)?;
+        words.extend(b" and ".as_slice())?;
+        put_choice(&mut words, to)?;
+    }
+    Ok(words)
+}
+
 // The rate of the sink at the end of a plan.
 fn sink_rate(plan: &Plan) -> Option<u32> {
     plan.nodes.as_slice().get(3).map(|node| node.rate)
@@ -96,6 +118,7 @@ fn a_run_finds_its_script_its_links_and_its_peaks(rt: HostRuntime) -> Result<(),
         script,
         plan,
         peaks,
+        refused,
     } = &what
     else {
         panic!(rt; "no run was found");
@@ -105,6 +128,7 @@ fn a_run_finds_its_script_its_links_and_its_peaks(rt: HostRuntime) -> Result<(),
     assert_eq!(rt; sink_rate(plan), Some(0));
     assert_eq!(rt; plan.epochs.len(), 1);
     assert!(rt; peaks.as_slice() == [PEAK].as_slice());
+    assert_eq!(rt; refused.len(), 1);
     Ok(())
 }
 
@@ -115,6 +139,7 @@ fn groups_find_the_nodes_the_links_and_the_peaks_of_all_parts(rt: HostRuntime) -
         script,
         plan,
         peaks,
+        refused,
     } = &what
     else {
         panic!(rt; "no run was found");
@@ -124,6 +149,39 @@ fn groups_find_the_nodes_the_links_and_the_peaks_of_all_parts(rt: HostRuntime) -
     assert_eq!(rt; sink_rate(plan), Some(48_000));
     assert_eq!(rt; plan.epochs.len(), 0);
     assert!(rt; peaks.as_slice() == [PEAK].as_slice());
+    assert_eq!(rt; refused.len(), 0);
+    Ok(())
+}
+
+#[test]
+fn a_run_finds_what_both_sides_of_a_refused_link_admit(rt: HostRuntime) -> Result<(), Fail> {
+    let what = found_by(&rt, "run s.graph", LONE_SINK, FILES, SURE)?;
+    let What::Run { refused, .. } = &what else {
+        panic!(rt; "no run was found");
+    };
+    let [link] = refused.as_slice() else {
+        panic!(rt; "{} links were refused", refused.len());
+    };
+    assert_eq!(rt; (link.line, link.place, link.key), (8, 1, 65_539));
+    assert!(rt; link.from == REFUSED.from && link.to == REFUSED.to);
+    assert!(rt; both_sides(rt.alloc(), link)?.as_slice() == b"44100 and 48000".as_slice());
+    Ok(())
+}
+
+#[test]
+fn no_refused_link_is_found_of_groups_nor_where_all_links_are_made(
+    rt: HostRuntime,
+) -> Result<(), Fail> {
+    for (line, script, rows) in [
+        ("run s.graph", ALL_LINKED, SAMPLES),
+        ("groups s.graph", LONE_SINK, FILES),
+    ] {
+        let what = found_by(&rt, line, script, rows, SURE)?;
+        let What::Run { refused, .. } = &what else {
+            panic!(rt; "{line}: no run was found");
+        };
+        assert_eq!(rt; refused.len(), 0, "{line}");
+    }
     Ok(())
 }
 

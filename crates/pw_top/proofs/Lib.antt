@@ -23,6 +23,7 @@ pub mod OneSoakLemmas
 pub mod PieceLemmas
 pub mod PlanWorkLemmas
 pub mod PlayingLemmas
+pub mod RefusedFoundLemmas
 pub mod RunFoundLemmas
 pub mod PrintableLemmas
 pub mod PodFileLemmas

@@ -26,7 +26,7 @@ use Rattle.pw_top.specs.GroupsWork.{groups_work, GroupsTo, GroupsPlan, IsGroupsA
 use Rattle.pw_top.specs.PlannedWork.{plan_work, PlaysTo, PlaysPlan}
 use Rattle.pw_top.specs.Playing.{Happened}
 use Rattle.pw_top.specs.Run.{IsRunAnswer}
-use Rattle.pw_top.specs.RunFound.{plan_found, parts_found, IsFoundByRun, IsFoundByGroups}
+use Rattle.pw_top.specs.RunFound.{IsFoundOfPlan, parts_found, IsFoundByRun, IsFoundByGroups}
 use Rattle.pw_top.specs.ScriptFile.{PlansFile}
 use Rattle.pw_top.specs.CheckFound.{IsFoundIn, IsFoundUnder, IsFoundByCheck}
 use Rattle.pw_top.specs.working.Seen.{verdict_by}
@@ -48,7 +48,7 @@ says names known shapes bytes (Check same reason event) f h k =
     finding_one names known shapes bytes f (Events (verdict_by reason)) k (h.1, h.2, reason_verdict shapes h.1 reason h.3)
 says names known shapes bytes (NoEvent number) f h k = finding_one names known shapes bytes f (Line number) k h
 says names known shapes bytes Nothing f h k = h
-says names known shapes bytes (Run script plan peaks) f h k = h
+says names known shapes bytes (Run script plan peaks refused) f h k = h
 says names known shapes bytes (Clash key) f h k = h
 
 -- OF `check`
@@ -77,16 +77,16 @@ found_says names script trace what a work found allowed is =
 pub found_as : {T : Type 0} (F : T → What) (x y : T) (what : What) → what ≡ F x → x ≡ y → what ≡ F y
 found_as F x y what f same = f ∙ ap F same
 
--- OF `run`: the plan and the peaks are those of the work
+-- OF `run`: the plan, the peaks and the refused links are those of what gives the work
 pub run_says : (c : Running) (h : Happened) (names : Names) (what : What) (a : Answer) (work : Work) → IsFoundByRun names c.script what
-    → IsRunAnswer c h names a → a.outcome ≡ Ok work → (p : Planned) × (what ≡ plan_found p) × (work ≡ plan_work p c.trace h.history)
+    → IsRunAnswer c h names a → a.outcome ≡ Ok work → (p : Planned) × IsFoundOfPlan p what × (work ≡ plan_work p c.trace h.history)
 run_says c h names what a work found allowed is =
     let w = went (PlansFile names c.script) (PlaysPlan c.crew c.trace h) a work allowed is in
     let p = w.given in
     let same = gave_one (PlansFile names c.script) (file_one names c.script) found.planned p found.plan
     (record { part = w.first; allowed = w.allowed; gives = w.gave }) in
     let plays = part_gave [] (PlaysTo c.crew c.trace h p) w.rest work w.after w.gives in
-    (p, found_as plan_found found.planned p what found.found same, ok_is work (plan_work p c.trace h.history) (Ok work) refl plays.1)
+    (p, subst (λ (q : Planned). IsFoundOfPlan q what) same found.found, ok_is work (plan_work p c.trace h.history) (Ok work) refl plays.1)
 
 -- OF `groups`
 pub groups_says : (c : Grouping) (h : Happened) (names : Names) (what : What) (a : Answer) (work : Work) → IsFoundByGroups names c.script what

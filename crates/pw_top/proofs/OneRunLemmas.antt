@@ -82,7 +82,7 @@ module _ (script : Script) (known : IsWhole script) where
   planned_same ports fit waves (Err status) y h k = absurd h
 
   pub plans_one : (inputs : PlanInputs) → AreScriptPorts script.lines inputs.ports → HasOne (PlansInputs script inputs)
-  plans_one inputs fit = binds_one (Reads (PlansTo script inputs.ports inputs.waves)) (KeepsPlan script inputs.waves)
+  plans_one inputs fit = binds_one (Reads (PlansTo script inputs.ports inputs.waves)) (KeepsPlan script inputs.ports inputs.waves)
       (part_one [] (PlansTo script inputs.ports inputs.waves) (planned_same inputs.ports fit inputs.waves))
       (λ plan. part_one [] _ (outcomes_equal _))
 
@@ -144,16 +144,21 @@ pub file_one : (names : Names) (word : List ℕ) → HasOne (PlansFile names wor
 file_one names word = binds_given (LoadsScript names word) (λ s. PlansInputs s.script s.inputs) (loaded_one names word)
     (λ e s p is. let ready = loaded_ready names word e s p is in plans_one s.script ready.whole s.inputs ready.ports)
 
--- the script of a plan
-pub planned_whole : (names : Names) (word : List ℕ) (e : Expected Planned) (x : Planned) → PlansFile names word e → e.outcome ≡ Ok x → IsWhole x.script
-planned_whole names word e x p is =
+-- the script of a plan, and its ports
+pub planned_ready : (names : Names) (word : List ℕ) (e : Expected Planned) (x : Planned) → PlansFile names word e → e.outcome ≡ Ok x
+    → IsWhole x.script × AreScriptPorts x.script.lines x.ports
+planned_ready names word e x p is =
     let w = went (LoadsScript names word) (λ s. PlansInputs s.script s.inputs) e x p is in
     let s = w.given in
-    let v = went (Reads (PlansTo s.script s.inputs.ports s.inputs.waves)) (KeepsPlan s.script s.inputs.waves) w.rest x w.after w.gives in
-    let planned : Planned = record { script = s.script; waves = s.inputs.waves; plan = v.given } in
+    let v = went (Reads (PlansTo s.script s.inputs.ports s.inputs.waves)) (KeepsPlan s.script s.inputs.ports s.inputs.waves) w.rest x w.after w.gives in
+    let planned : Planned = record { script = s.script; ports = s.inputs.ports; waves = s.inputs.waves; plan = v.given } in
     let same : Ok x ≡ Ok planned = part_gave [] (λ outcome. outcome ≡ Ok planned) v.rest x v.after v.gives in
-    subst (λ (y : Planned). IsWhole y.script) (sym (ok_is x planned (Ok x) refl same))
-    (loaded_ready names word w.first s w.allowed w.gave).whole
+    let ready = loaded_ready names word w.first s w.allowed w.gave in
+    subst (λ (y : Planned). IsWhole y.script × AreScriptPorts y.script.lines y.ports) (sym (ok_is x planned (Ok x) refl same))
+    (ready.whole, ready.ports)
+
+pub planned_whole : (names : Names) (word : List ℕ) (e : Expected Planned) (x : Planned) → PlansFile names word e → e.outcome ≡ Ok x → IsWhole x.script
+planned_whole names word e x p is = (planned_ready names word e x p is).0
 
 plays_one : (crew : Crew) (trace : Bool) (h : Happened) (p : Planned) → OneOutcome (PlaysTo crew trace h p)
 plays_one crew trace h p x y a b = a.1 ∙ sym b.1

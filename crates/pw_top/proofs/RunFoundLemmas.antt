@@ -8,15 +8,15 @@ use Rattle.command_frame.specs.declared.work.Work.{Work}
 use Rattle.pw_top.specs.declared.parted.Parted.{Parted}
 use Rattle.pw_top.specs.declared.planned.Planned.{Planned}
 use Rattle.pw_top.specs.Groups.{PartsFile}
-use Rattle.pw_top.specs.RunFound.{plan_found, parts_found, IsFoundByRun, IsFoundByGroups}
+use Rattle.pw_top.specs.RunFound.{IsFoundOfPlan, parts_found, IsFoundByRun, IsFoundByGroups}
 use Rattle.pw_top.specs.ScriptFile.{PlansFile}
 use Rattle.pw_top.specs.working.Preparing.{Tells}
 use Rattle.pw_top.proofs.FoundLemmas.{part_gives_it, ok_then}
 
 module _ (held : Held) (script : List ℕ) (what : What) (r : Result Work Status) where
-  pub run_found : (p : Planned) → Tells held (λ names. PlansFile names script) (Ok p) → OnOk r (what ≡ plan_found p)
+  pub run_found : (p : Planned) → Tells held (λ names. PlansFile names script) (Ok p) → OnOk r (IsFoundOfPlan p what)
       → OnOk r (IsSome held → IsFoundByRun (names_in held) script what)
-  run_found p told found = ok_then r (what ≡ plan_found p) (IsSome held → IsFoundByRun (names_in held) script what)
+  run_found p told found = ok_then r (IsFoundOfPlan p what) (IsSome held → IsFoundByRun (names_in held) script what)
       (λ f h. record { planned = p; plan = part_gives_it (PlansFile (names_in held) script) p (told h); found = f })
       found
 

@@ -22,10 +22,12 @@ pub mod OneAnswer
 pub mod Options
 pub mod Outside
 pub mod PartsAlone
+pub mod Playable
 pub mod PlannedWork
 pub mod Playing
 pub mod PodFile
 pub mod Refusals
+pub mod RefusedFound
 pub mod Run
 pub mod RunFound
 pub mod ScriptFile

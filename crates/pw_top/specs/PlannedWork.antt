@@ -1,18 +1,15 @@
 -- The plan of a script, and the files and text of its run.
 -- Source: PipeWire's documentation, "Graph Scheduling"; scripts are this project's.
-use Rattle.std.specs.Prelude.{◌≡◌, Bool, true, false, List, [], map, All, Option, Some, None, Result, Ok, Err}
+use Rattle.std.specs.Prelude.{◌≡◌, Bool, true, false, List, [], map, Option, Some, None, Result, Ok, Err}
 use Rattle.pw_graph.specs.declared.event.Event.{Event}
 use Rattle.pw_graph.specs.declared.plan.Plan.{Plan}
-use Rattle.pw_graph.specs.SoundPlan.{IsSoundPlan}
 use Rattle.wav_files.specs.declared.wav.WavIn.{WavIn}
 use Rattle.wav_files.specs.declared.outcome.Outcome.{Outcome}
 use Rattle.graph_script.specs.declared.script.Script.{Script}
 use Rattle.port_model.specs.declared.port_state.Node.{Node}
 use Rattle.graph_plan.specs.declared.fault.PlanFault.TheVariants as F
-use Rattle.graph_plan.specs.Joining.{JoinsKinds}
 use Rattle.graph_plan.specs.Planned.{IsPlanned}
 use Rattle.cycle_model.specs.Rendering.{rendered_sinks, rendered_peaks}
-use Rattle.cycle_model.specs.WavesFit.{WavesFit}
 use Rattle.cycle_trace.specs.RunText.{run_text_of}
 use Rattle.pw_top.specs.declared.planned.Planned.{Planned}
 use Rattle.pw_top.specs.declared.playing.Crew.{Crew}
@@ -23,7 +20,7 @@ use Rattle.command_frame.specs.declared.work.Work.{Work}
 use Rattle.pw_top.specs.Answer.{Answer, Expected}
 use Rattle.pw_top.specs.Allowed.{Binds, Reads}
 use Rattle.pw_top.specs.Playing.{Happened, HasRun}
-use Rattle.pw_top.specs.SinkStores.{sink_store, AllPlaced}
+use Rattle.pw_top.specs.SinkStores.{sink_store}
 
 -- a plan of the script, or the first line that passes a limit
 abbrev pub PlansTo : Script → List Node → List WavIn → Result Plan Status → Type 0
@@ -32,24 +29,18 @@ PlansTo script ports waves (Err (S.Limit line which)) =
     IsPlanned script.lines script.names waves ports (Err (F.Limit line which))
 PlansTo script ports waves (Err status) = ⊥
 
--- the plan with the script and its waves
-abbrev pub KeepsPlan : Script → List WavIn → Plan → Expected Planned → Type 0
-KeepsPlan script waves plan = Reads (λ outcome. outcome
-    ≡ Ok (record { script = script; waves = waves; plan = plan }))
+-- the plan with the script, and its ports and waves as they were before the first line
+abbrev pub KeepsPlan : Script → List Node → List WavIn → Plan → Expected Planned → Type 0
+KeepsPlan script ports waves plan = Reads (λ outcome. outcome
+    ≡ Ok (record { script = script; ports = ports; waves = waves; plan = plan }))
 
 abbrev pub PlansPorts : Script → List Node → List WavIn → Expected Planned → Type 0
-PlansPorts script ports waves = Binds (Reads (PlansTo script ports waves)) (KeepsPlan script waves)
+PlansPorts script ports waves = Binds (Reads (PlansTo script ports waves))
+    (KeepsPlan script ports waves)
 
 -- of what the lines have loaded
 abbrev pub PlansInputs : Script → PlanInputs → Expected Planned → Type 0
 PlansInputs script inputs = PlansPorts script inputs.ports inputs.waves
-
--- what follows from it: the plan can be run, and what its sinks keep be stored
-pub record IsPlayable (p : Planned) : Type 0 where
-  pub sound : IsSoundPlan p.plan
-  pub fit : WavesFit p.plan p.waves
-  pub joins : All (JoinsKinds p.plan) p.plan.lines
-  pub placed : AllPlaced p.script.lines p.plan p.waves
 
 -- what a plan gives from its waves, whatever its history
 abbrev pub rendered : Plan → List WavIn → Outcome

@@ -20,6 +20,7 @@ mod playing;
 mod pod_file;
 mod points_file;
 mod preparing;
+mod refused;
 mod script_loads;
 mod status_line;
 mod surely;

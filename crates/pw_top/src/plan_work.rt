@@ -3,11 +3,13 @@
 ghost use Rattle.std.specs.Prelude.{◌≡◌, map, option_copied, IfOk, OnOk, All};
 ghost use Rattle.pw_graph.specs.History.{IsLegalHistory};
 ghost use Rattle.graph_script.specs.Kinds.{made_by};
-ghost use Rattle.pw_top.specs.PlannedWork.{plan_work, if_traced, rendered, IsPlayable};
-ghost use Rattle.pw_top.specs.RunFound.{plan_found};
+ghost use Rattle.pw_top.specs.Playable.{IsPlayable};
+ghost use Rattle.pw_top.specs.PlannedWork.{plan_work, if_traced, rendered};
+ghost use Rattle.pw_top.specs.RunFound.{IsFoundOfPlan};
 ghost use Rattle.pw_top.specs.SinkStores.{makes_sink, sink_line_of, sink_file, sink_store};
 
 use crate::planned::Planned;
+use crate::refused::refused_in;
 use cycle_trace::run_text;
 use graph_script::{Command, Line};
 use pw_graph::Event;
@@ -87,7 +89,7 @@ fn if_traced(trace: bool, history: &Items<Event>) -> Option<&Items<Event>>
 }
 
 /// The stores and the text of a run: its sinks' files, and with `trace` its events. The script, its
-/// plan and the peaks are left in `what`.
+/// plan, the peaks and the refused links are left in `what`.
 pub fn plan_work(
     alloc: Global,
     planned: Planned,
@@ -100,16 +102,23 @@ pub fn plan_work(
     requires legal { IsLegalHistory (map (λ e. e.shape) planned.plan.epochs) history.now }
     requires outcome { outcome ≡ rendered planned.plan planned.waves }
     ensures work { IfOk result (λ work. work ≡ plan_work planned trace history.now) }
-    ensures what { OnOk result (what.new ≡ plan_found planned) }
+    ensures what { OnOk result (IsFoundOfPlan planned what.new) }
 {
-    let Planned { script, plan, .. } = planned;
+    let Planned {
+        script,
+        ports,
+        waves,
+        plan,
+    } = planned;
     let text = run_text(alloc, &plan, if_traced(trace, history), &outcome)?;
     let Outcome { sinks, peaks, .. } = outcome;
     let stores = sink_stores(alloc, script.lines.as_slice(), sinks)?;
+    let refused = refused_in(alloc, &script, ports, &waves, plan.lines.as_slice())?;
     *what = What::Run {
         script,
         plan,
         peaks,
+        refused,
     };
     Ok(Work { stores, text })
 }

@@ -12,7 +12,8 @@ ghost use Rattle.pw_top.specs.working.Preparing.{LoadsOnly, Tells};
 ghost use Rattle.pw_top.specs.ScriptFile.{PlansFile};
 ghost use Rattle.pw_top.specs.ScriptFound.{end_of, IsScriptUnder};
 ghost use Rattle.pw_top.specs.PlanInputs.{AreInputsOf};
-ghost use Rattle.pw_top.specs.PlannedWork.{PlansPorts, PlansInputs, IsPlayable};
+ghost use Rattle.pw_top.specs.Playable.{IsPlayable};
+ghost use Rattle.pw_top.specs.PlannedWork.{PlansPorts, PlansInputs};
 
 use crate::inputs::PlanInputs;
 use crate::loaded_script::{LoadedScript, load_script};
@@ -26,15 +27,17 @@ use run_results::Status;
 use std::alloc::Global;
 use wav_files::WavIn;
 
-/// A script with the waves of its sources and its plan.
+/// A script with its ports as they were before its first line, the waves of its sources, and its
+/// plan.
 #[derive(Drop)]
 pub struct Planned {
     pub script: Script,
+    pub ports: Ports,
     pub waves: Items<WavIn>,
     pub plan: Plan,
 }
 
-/// The plan of a script from its ports and waves.
+/// The plan of a script from its ports and waves. The ports are copied: a plan takes them.
 pub fn plan_ports(
     alloc: Global,
     script: Script,
@@ -50,14 +53,18 @@ pub fn plan_ports(
     ensures cause { CommandCause IsPlayable 0 0 result }
     ensures script { IfOk result (λ planned. planned.script ≡ script) }
 {
-    match plan(alloc, &script, &waves, ports) {
-        Err(PlanFault::Limit { line, which }) => Err(Status::Limit { place: line, which }),
-        Err(PlanFault::Memory) => Err(Status::Memory),
-        Ok(plan) => Ok(Planned {
-            script,
-            waves,
-            plan,
-        }),
+    match ports.copy(alloc) {
+        Err(_memory) => Err(Status::Memory),
+        Ok(kept) => match plan(alloc, &script, &waves, ports) {
+            Err(PlanFault::Limit { line, which }) => Err(Status::Limit { place: line, which }),
+            Err(PlanFault::Memory) => Err(Status::Memory),
+            Ok(plan) => Ok(Planned {
+                script,
+                ports: kept,
+                waves,
+                plan,
+            }),
+        },
     }
 }
 

@@ -93,7 +93,8 @@ fn run_parted<R: Threads + Wait + Sync, G: Gate + Sync>(
 }
 
 // The files of all sinks, and the text. The script, the plan of all parts together and the peaks
-// are left in `what`.
+// are left in `what`. No refused link is: each part has a driver of its own, and a rehearsal of all
+// lines has not.
 fn groups_work(
     alloc: Global,
     parted: Parted,
@@ -114,6 +115,7 @@ fn groups_work(
         script,
         plan,
         peaks,
+        refused: Items::new(alloc),
     };
     Ok(Work { stores, text })
 }

@@ -6,11 +6,12 @@ ghost use Rattle.std.specs.Prelude.{◌≡◌, ◌≤◌, None, IsSome, OnOk};
 ghost use Rattle.ready_queues.specs.Lanes.{loops_limit};
 ghost use Rattle.pw_outside.specs.Files.{names_in};
 ghost use Rattle.pw_top.specs.working.Ending.{CommandCause, IsDeliverable};
-ghost use Rattle.pw_top.specs.PlannedWork.{IsPlayable, PlaysPlan};
+ghost use Rattle.pw_top.specs.Playable.{IsPlayable};
+ghost use Rattle.pw_top.specs.PlannedWork.{PlaysPlan};
 ghost use Rattle.pw_top.specs.Playing.{happened, HasNothing, Plays, TellsPlay};
 ghost use Rattle.pw_top.specs.working.Preparing.{LoadsOnly};
 ghost use Rattle.pw_top.specs.Run.{IsRunAnswer};
-ghost use Rattle.pw_top.specs.RunFound.{plan_found, IsFoundByRun};
+ghost use Rattle.pw_top.specs.RunFound.{IsFoundOfPlan, IsFoundByRun};
 ghost use Rattle.pw_top.specs.ScriptFound.{end_of, IsScriptUnder};
 
 use crate::plan_work::plan_work;
@@ -53,7 +54,7 @@ impl Running {
         ensures done { Plays (PlaysPlan self.now.crew self.now.trace
             (happened played.new (K.ticks ticker.old) (K.ticks ticker.new)) planned)
             (happened played.new (K.ticks ticker.old) (K.ticks ticker.new)) result }
-        ensures what { OnOk result (what.new ≡ plan_found planned) }
+        ensures what { OnOk result (IsFoundOfPlan planned what.new) }
         ensures cause { CommandCause IsDeliverable 0 0 result }
         ensures later { K.ticks ticker.old ≤ K.ticks ticker.new }
     {
