@@ -13,15 +13,19 @@ from worked import FORMAT, GAINS, choice, chunk, form, nested, number, pod, prop
 
 RATE = 65539
 TRACE = 4294967295
+RIFF = "this is no RIFF WAVE file"
 PCM = "only PCM of 16 bits a sample is read"
+READ = PCM + "; sox IN -e signed -b 16 OUT.wav may make that of it"
+MAKES = "; pipegraph-pods makes a POD of a list or of a dump's text"
 
 # A WAV file, its fault, and what is said of it.
 WAVES = [
-    ("NotRiff", b"RIFX" + bytes(40), "this is no RIFF WAVE file"),
+    ("NotRiff", b"RIFX" + bytes(40),
+     RIFF + "; of a sound file ffmpeg -i IN -c:a pcm_s16le OUT.wav makes one"),
     ("NoFmt", riff(chunk(b"data", b"")), "there is no fmt chunk before the samples"),
     ("BadFmt", riff(chunk(b"fmt ", bytes(8))), "the fmt chunk is not sound"),
-    ("NotPcm16", riff(chunk(b"fmt ", form(bits=24))), PCM),
-    ("NotPcm16", riff(chunk(b"fmt ", form(tag=3))), PCM),
+    ("NotPcm16", riff(chunk(b"fmt ", form(bits=24))), READ),
+    ("NotPcm16", riff(chunk(b"fmt ", form(tag=3))), READ),
     ("NoData", riff(chunk(b"fmt ", form())), "there is no data chunk"),
     ("Truncated", riff(chunk(b"fmt ", form()), chunk(b"data", b"", 2)),
      "a chunk passes the end of the file, as where it was cut or written to a pipe; "
@@ -32,18 +36,18 @@ WAVES = [
      "only 1 to 8 channels at 1 to 384000 frames a second are read")]
 
 # What is said otherwise of a file that is drawn.
-DRAWN = {"Truncated": "a chunk passes the end of the file"}
+DRAWN = {"NotRiff": RIFF, "NotPcm16": PCM, "Truncated": "a chunk passes the end of the file"}
 
 # A POD that is none, what its line says after the cause, and what is said of it.
 PODS_AT_FAULT = [
-    ("Short", b"", "0", "a POD passes the end of what holds it, at byte 0"),
+    ("Short", b"", "0", "a POD passes the end of what holds it, at byte 0" + MAKES),
     ("TypeUnknown", pod(99, b""), "4 99", "a type that is not read, at byte 4"),
     ("Size", pod(4, bytes(8)), "0", "a size that its type does not have, at byte 0"),
     ("Uneven", pod(13, struct.pack("<II", 4, 4) + bytes(6)), "0",
      "values that do not fill their body, at byte 0"),
     ("Deep", nested(17), "128", "a POD more than 16 deep, at byte 128"),
     ("Large", struct.pack("<II", 1048577, 14), "1048577",
-     "a POD of more than 1048576 bytes: 1048577"),
+     "a POD of more than 1048576 bytes: 1048577" + MAKES),
     ("Large", wav([1, 2, 3]), "1179011410", "a POD of more than 1048576 bytes: 1179011410; "
      "it begins with RIFF, as a WAV file does"),
     ("Nul", pod(8, b"ab"), "0", "a string without a nul at its end, at byte 0")]

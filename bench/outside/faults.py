@@ -8,6 +8,7 @@ GAIN = "a gain is -32767 to 32767, in 1/256: 256 is 0 dB, 128 is 0.5 or -6 dB"
 FRAMES = "FRAMES is 0 to 65536: 300 ms at 48000 a second are 14400"
 ASCII = "only ASCII may be in a script, in comments too: byte "
 RATE = "RATE is 1 to 384000 frames a second"
+EARLIER = "no line before this one makes "
 WAY = "; a link goes from an output to an input"
 BLANKS = "; a file word has no blanks, and quotes mean nothing"
 ALONE = "; a comment is a line of its own"
@@ -75,10 +76,12 @@ LINES = [
     ("source v " + "a" * 256, 5, f'"{"a" * 200}..": a file word has at most 255 bytes'),
     ("gain g 1", 6, 'the name is taken: "g"'),
     ("gain dummy 1", 6, '"dummy" is the built-in driver\'s name'),
-    ("on vox", 7, 'no node is called "vox"'), ("driver out 1", 7, 'no node is called "out"'),
-    ("link s.out oo.in", 7, '"oo.in" names no node'),
-    ("link ss.out oo.in", 7, '"ss.out" names no node'),
-    ("unlink dummy.out o.in", 7, '"dummy.out" names no node'),
+    ("on vox", 7, EARLIER + 'a node called "vox"'),
+    ("driver out 1", 7, EARLIER + 'a node called "out"'),
+    ("link s.out late.in\nmeter late", 7, EARLIER + 'the node of "late.in"'),
+    ("link s.out oo.in", 7, EARLIER + 'the node of "oo.in"'),
+    ("link ss.out oo.in", 7, EARLIER + 'the node of "ss.out"'),
+    ("unlink dummy.out o.in", 7, EARLIER + 'the node of "dummy.out"'),
     ("link o.in s.out", 8, f'"o.in" is no output: "o" is a sink, which has none{WAY}'),
     ("link g.in o.in", 8, f'"g.in" is no output: "g" is a gain, whose output is out{WAY}'),
     ("link s.out g.out", 8, '"g.out" is no input: "g" is a gain, whose input is in'),
@@ -107,7 +110,7 @@ def lines(place):
 def once(place):
     """Scripts that can be read only once."""
     wrong = b"gain a 1\non vox\n"
-    said = b':2: no node is called "vox"\n'
+    said = b':2: no line before this one makes a node called "vox"\n'
     wanted = 2, b"script 2 7\n"
     place.feed("once.fifo", wrong)
     place.same("a named pipe", (*wanted, b"pipegraph: once.fifo" + said),

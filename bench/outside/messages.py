@@ -11,10 +11,11 @@ SYNOPSIS = """usage: pipegraph run SCRIPT [--loops N] [--ticks N] [--trace] [--s
        pipegraph soak NUMBER
        pipegraph groups SCRIPT
 """
-UNWRITTEN = "the file cannot be written: there is no such folder"
+NO_FOLDER = "there is no such folder, or it can have no such file"
+UNWRITTEN = f"the file cannot be written: {NO_FOLDER}"
 UNREAD = "the system refuses it"  # a file, in the words of pipegraph-pictures
-REASONS = ["it is a folder", "there is no such folder", "the system does not permit it",
-           "no room is left"]
+REASONS = ["it is a folder", NO_FOLDER, "the system does not permit it", "no room is left"]
+MAKES = "pipegraph-pods makes a POD of a list or of a dump's text"
 
 # A word, and how every program shows it.
 ODD = [("a\x1b[1m\x7f", "a\\x1b[1m\\x7f"), ("a\x85b\x9f", "a\\xc2\\x85b\\xc2\\x9f"),
@@ -41,11 +42,13 @@ def sentences(place):
         place.file(f"{name}.graph",
                    f"square s 48000 1 4 9\nsink o {sink}\nlink s.out o.in\ncycles 1\n")
     for words, status, line, sentence in [
-            (["run", "take.graph"], 2, "script 3 7\n", 'take.graph:3: no node is called "vox"'),
+            (["run", "take.graph"], 2, "script 3 7\n",
+             'take.graph:3: no line before this one makes a node called "vox"'),
             (["run", "pair.graph", "--loops", "2"], 2, "script 2 7\n",
-             'pair.graph:2: "v.in" names no node'),
+             'pair.graph:2: no line before this one makes the node of "v.in"'),
             (["run", "wav.graph"], 3, "wav 1 1\n",
-             "wav.graph:1: vox.wav: this is no RIFF WAVE file"),
+             "wav.graph:1: vox.wav: this is no RIFF WAVE file; "
+             "of a sound file ffmpeg -i IN -c:a pcm_s16le OUT.wav makes one"),
             (["run", "gone.graph"], 5, "absent 1\n",
              "gone.graph:1: gone.wav: there is no such file; "
              "file words are paths from the working directory"),
@@ -53,7 +56,7 @@ def sentences(place):
             (["run", "."], 6, "read 0\n",
              ".: the file cannot be read: it is a folder"),
             (["run", "pod.graph"], 4, "pod 2 6 1481001298\n",
-             "pod.graph:2: vox.wav: a POD of more than 1048576 bytes: 1481001298"),
+             f"pod.graph:2: vox.wav: a POD of more than 1048576 bytes: 1481001298; {MAKES}"),
             (["run", "store.graph"], 7, "write 2\n",
              f"store.graph:2: no/o.wav: {UNWRITTEN}"),
             (["run", "full.graph"], 7, "write 2\n",
@@ -61,9 +64,9 @@ def sentences(place):
             (["run", "folder.graph"], 7, "write 2\n",
              "folder.graph:2: /tmp: the file cannot be written: it is a folder"),
             (["dump", "vox.wav/a"], 6, "read 1\n",
-             "vox.wav/a: the file cannot be read: there is no such folder"),
+             f"vox.wav/a: the file cannot be read: {NO_FOLDER}"),
             (["dump", "vox.wav"], 4, "pod 1 6 1481001298\n",
-             "vox.wav: a POD of more than 1048576 bytes: 1481001298"),
+             f"vox.wav: a POD of more than 1048576 bytes: 1481001298; {MAKES}"),
             (["check", "fine.graph", "none"], 5, "absent 4294967295\n",
              "none: there is no such file")]:
         wanted = status, line.encode(), f"pipegraph: {sentence}\n".encode()
@@ -92,6 +95,9 @@ def sentences(place):
              '"b" is no option; these are --loops N, --ticks N, --trace and --steal'),
             (["run", "a" * 100000],
              f'"{"a" * 200}..": a file word has 1 to 255 bytes, the first of them no -'),
+            (["run", "-"], '"-" is no file word; standard input is /dev/stdin'),
+            (["dump", "-"], '"-" is no file word; standard input is /dev/stdin'),
+            (["automate", "-", "b", "c"], '"-" is no file word; standard input is /dev/stdin'),
             (["dump", "a", "b"], '"b" is one word too many'),
             (["soak", "07"], '"07": NUMBER is 0 to 4294967295, without a leading zero')]:
         place.same(" ".join(words), f"pipegraph: {sentence}\n{SYNOPSIS}".encode(),

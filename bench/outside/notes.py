@@ -23,7 +23,7 @@ LINKS = [
     ("link a.out o.in\nlink c.out o.in\n",
      "link a.out o.in 48000 1 2\nnolink c.out o.in 65540\n",
      [(9, '"c.out" to "o.in" is no link: no common channels (key 65540); '
-      'map NAME 1 0,0 makes two channels of one')]),
+      'where one side has one channel and the other two, map NAME 1 0,0 makes two of one')]),
     ("buffers a out 2\nbuffers o in 3\nlink a.out o.in\n", "nolink a.out o.in buffers\n",
      [(10, '"a.out" to "o.in" is no link: no number of buffers suits both ports'),
       (5, '"o" had no format at the end, so it does not write "o.wav"')]),
@@ -130,8 +130,9 @@ def others(place):
             (["begin 0", "tick 0 dummy"], "illegal 2\n",
              't.txt:2: tick 0 dummy: "dummy" cannot be late: '
              "it drives cycle 0, is not active in it, or has finished in it"),
-            (events[:1] + ["start"], "line 2\n", "t.txt:2: no event line; "
-             "grep -E '^(begin|start|finish|tick|end) ' takes those of a run's text")]:
+            (events[:1] + ["start"], "line 2\n", "t.txt:2: no event line of this script's nodes; "
+             "grep -E '^(begin|start|finish|tick|end) ' takes those of a run's text, "
+             "and none ends with a blank or a carriage return")]:
         place.file("t.txt", "".join(line + "\n" for line in lines))
         said = f"pipegraph: {said}\n" if said else ""
         place.same(f"check {lines}", (0, answer.encode(), said.encode()),

@@ -83,6 +83,7 @@ fn run_of(
         script,
         plan,
         peaks,
+        refused: Items::new(alloc),
     })
 }
 

@@ -192,12 +192,12 @@ const SCRIPTS: &'static [(ScriptWhy, &'static [u8], &'static [u8])] = &[
     (
         ScriptWhy::NameUnknown,
         b"on vox",
-        b"no node is called \"vox\"",
+        b"no line before this one makes a node called \"vox\"",
     ),
     (
         ScriptWhy::NameUnknown,
         b"link vox.out o.in",
-        b"\"vox.out\" names no node",
+        b"no line before this one makes the node of \"vox.out\"",
     ),
     (
         ScriptWhy::PortUnknown,
@@ -246,7 +246,10 @@ const NO_LINE: &'static [(ScriptWhy, &'static [u8])] = &[
     (ScriptWhy::Command, b"the first word is no command"),
     (ScriptWhy::Arguments, b"too few words, or too many"),
     (ScriptWhy::NameTaken, b"the name is taken"),
-    (ScriptWhy::NameUnknown, b"no node has this name"),
+    (
+        ScriptWhy::NameUnknown,
+        b"no line before this one makes a node of this name",
+    ),
     (ScriptWhy::PortUnknown, b"the node has no such port"),
     (
         ScriptWhy::NotDriverKind,
@@ -299,10 +302,18 @@ fn each_fault_of_a_script_has_its_sentence(rt: HostRuntime) {
 
 /// Each fault of a WAV file, and what is said.
 const WAVES: &'static [(WavFault, &'static [u8])] = &[
-    (WavFault::NotRiff, b"this is no RIFF WAVE file"),
+    (
+        WavFault::NotRiff,
+        b"this is no RIFF WAVE file; \
+            of a sound file ffmpeg -i IN -c:a pcm_s16le OUT.wav makes one",
+    ),
     (WavFault::NoFmt, b"there is no fmt chunk before the samples"),
     (WavFault::BadFmt, b"the fmt chunk is not sound"),
-    (WavFault::NotPcm16, b"only PCM of 16 bits a sample is read"),
+    (
+        WavFault::NotPcm16,
+        b"only PCM of 16 bits a sample is read; \
+            sox IN -e signed -b 16 OUT.wav may make that of it",
+    ),
     (WavFault::NoData, b"there is no data chunk"),
     (
         WavFault::Truncated,
@@ -362,6 +373,11 @@ const PODS: &'static [(PodWhy, &'static [u8])] = &[
         b"a POD passes the end of what holds it, at byte 8",
     ),
     (
+        PodWhy::Short { offset: 0 },
+        b"a POD passes the end of what holds it, at byte 0; \
+            pipegraph-pods makes a POD of a list or of a dump's text",
+    ),
+    (
         PodWhy::TypeUnknown {
             offset: 4,
             number: 99,
@@ -382,7 +398,8 @@ const PODS: &'static [(PodWhy, &'static [u8])] = &[
     ),
     (
         PodWhy::Large { size: 1048577 },
-        b"a POD of more than 1048576 bytes: 1048577",
+        b"a POD of more than 1048576 bytes: 1048577; \
+            pipegraph-pods makes a POD of a list or of a dump's text",
     ),
     (
         PodWhy::Large { size: 1179011410 },

@@ -111,7 +111,8 @@ const LINKS: &'static [Noted] = &[
             &[Peak { node: 1, value: 5 }],
         ),
         notes: b"pipegraph: t.graph:3: \"s.out\" to \"m.in\" is no link: \
-            no common channels (key 65540); map NAME 1 0,0 makes two channels of one\n",
+            no common channels (key 65540); \
+            where one side has one channel and the other two, map NAME 1 0,0 makes two of one\n",
         ..RUN
     },
     // Ports of every place, and a command of two parts.
@@ -135,7 +136,8 @@ const LINKS: &'static [Noted] = &[
             pipegraph: t.graph:5: \"t.right\" to \"m.b\" is no link: \
             no common media type (key 1)\n\
             pipegraph: t.graph:6: \"m.out\" to \"n.in\" is no link: \
-            no common channels (key 65540); map NAME 1 0,0 makes two channels of one\n",
+            no common channels (key 65540); \
+            where one side has one channel and the other two, map NAME 1 0,0 makes two of one\n",
         ..RUN
     },
 ];
@@ -186,8 +188,26 @@ const SINKS: &'static [Noted] = &[
         stored: &[(1, "a\\b\"c.wav", &[0]), (3, "o", &[0])],
         notes: b"pipegraph: t.graph:1: \"a\\\\b\"c.wav\" is a source's file too: \
             it was read first, and written after that\n\
+            pipegraph: t.graph:1: \"a\\\\b\"c.wav\" is the whole name of the file; \
+            quotes are a part of it\n\
             pipegraph: t.graph:4: \"q\" had no format at the end, \
             so it does not write \"\"\\\\\"\"\n",
+        ..RUN
+    },
+    // A dash, before and behind a file that is stored too, and one of a sink without a format.
+    Noted {
+        script: Some(b"sink o -\nsink p -\nsink q --\nsink r -\ncycles 1\n"),
+        seen: Seen::Run(&[], &[]),
+        stored: &[(1, "-", &[0]), (2, "-", &[32767]), (3, "--", &[0])],
+        notes: b"pipegraph: t.graph:1: \"-\" is written by a later sink too; \
+            a regular file keeps what is written last\n\
+            pipegraph: t.graph:1: \"-\" is the name of the file; \
+            standard output is /dev/stdout\n\
+            pipegraph: t.graph:2: \"-\" is the name of the file; \
+            standard output is /dev/stdout\n\
+            pipegraph: t.graph:2: \"p\" has 1 sample at the limit of 16 bits\n\
+            pipegraph: t.graph:4: \"r\" had no format at the end, \
+            so it does not write \"-\", which another sink writes\n",
         ..RUN
     },
     // Of two meters the one without a format.
@@ -202,7 +222,8 @@ const SINKS: &'static [Noted] = &[
         script: Some(b"meter n\nmeter m\nsquare q 48000 2 2 5\nlink q.out m.in\ncycles 1\n"),
         seen: Seen::Run(&[CHANNELS], &[Peak { node: 0, value: 0 }]),
         notes: b"pipegraph: t.graph:4: \"q.out\" to \"m.in\" is no link: \
-            no common channels (key 65540); map NAME 1 0,0 makes two channels of one\n\
+            no common channels (key 65540); \
+            where one side has one channel and the other two, map NAME 1 0,0 makes two of one\n\
             pipegraph: t.graph:2: \"m\" had no format at the end, so it has no peak\n",
         ..RUN
     },
@@ -330,6 +351,29 @@ const CLIPPED: &'static [Noted] = &[
         stored: &[(1, "o.wav", &[32767])],
         ..RUN
     },
+    Noted {
+        command: "automate i.wav s.pod o\u{1}.wav",
+        script: None,
+        seen: Seen::Nothing,
+        stored: &[(3, "o\u{1}.wav", &[32767, 0, -32768, 32766])],
+        notes: b"pipegraph: o\\x01.wav: 2 samples at the limit of 16 bits\n",
+        ..RUN
+    },
+    Noted {
+        command: "automate i.wav s.pod o.wav",
+        script: None,
+        seen: Seen::Nothing,
+        stored: &[(3, "o.wav", &[-32768])],
+        notes: b"pipegraph: o.wav: 1 sample at the limit of 16 bits\n",
+        ..RUN
+    },
+    Noted {
+        command: "automate i.wav s.pod o.wav",
+        script: None,
+        seen: Seen::Nothing,
+        stored: &[(3, "o.wav", &[32766, -32767])],
+        ..RUN
+    },
 ];
 
 /// What a check and a filter find, other commands, and runs of which nothing is at hand.
@@ -344,8 +388,9 @@ const OTHERS: &'static [Noted] = &[
         command: "check t.graph t.txt",
         seen: Seen::NoEvent(12),
         told: Some(b"line 13\n"),
-        notes: b"pipegraph: t.txt:12: no event line; \
-            grep -E '^(begin|start|finish|tick|end) ' takes those of a run's text\n",
+        notes: b"pipegraph: t.txt:12: no event line of this script's nodes; \
+            grep -E '^(begin|start|finish|tick|end) ' takes those of a run's text, \
+            and none ends with a blank or a carriage return\n",
         ..RUN
     },
     Noted {

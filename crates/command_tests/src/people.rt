@@ -225,6 +225,13 @@ const ARGUMENTS: &'static [Asked] = &[
         ..RUN
     },
     Asked {
+        script: b"source v -\n",
+        code: 5,
+        out: b"absent 1\n",
+        said: b"s.graph:1: -: there is no such file; standard input is /dev/stdin",
+        ..RUN
+    },
+    Asked {
         script: b"source v /no.wav\n",
         code: 5,
         out: b"absent 1\n",
@@ -566,6 +573,18 @@ const USAGES: &'static [Asked] = &[
         line: "filter a -b c",
         out: b"usage 2\n",
         said: b"\"-b\": a file word has 1 to 255 bytes, the first of them no -",
+        ..USAGE
+    },
+    Asked {
+        line: "run -",
+        out: b"usage 1\n",
+        said: b"\"-\" is no file word; standard input is /dev/stdin",
+        ..USAGE
+    },
+    Asked {
+        line: "automate - s.pod o.wav",
+        out: b"usage 1\n",
+        said: b"\"-\" is no file word; standard input is /dev/stdin",
         ..USAGE
     },
     Asked {

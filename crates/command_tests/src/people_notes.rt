@@ -20,7 +20,7 @@ const NOTES: &'static [Asked] = &[
         code: 0,
         out: b"link c.out m.in 48000 2 2\nnolink a.out m.in 65540\npeak m 0\n",
         said: b"s.graph:5: \"a.out\" to \"m.in\" is no link: no common channels (key 65540); \
-            map NAME 1 0,0 makes two channels of one\n\
+            where one side has one channel and the other two, map NAME 1 0,0 makes two of one\n\
             pipegraph: s.graph:3: \"m\" got no frames, so its peak is 0: \
             the script has no cycles line and no drain line",
         ..RUN
@@ -42,7 +42,7 @@ const NOTES: &'static [Asked] = &[
         out: b"link a.out m.in 48000 1 2\nnolink c.out m.in 65540\nlink c.out n.in 48000 2 2\n\
             peak m 5\npeak n 5\nunused z\n",
         said: b"s.graph:7: \"c.out\" to \"m.in\" is no link: no common channels (key 65540); \
-            map NAME 1 0,0 makes two channels of one\n\
+            where one side has one channel and the other two, map NAME 1 0,0 makes two of one\n\
             pipegraph: s.graph:9: \"z\" had no format at the end, so it has no peak",
         ..RUN
     },
@@ -76,8 +76,9 @@ const NOTES: &'static [Asked] = &[
         files: &[("t.txt", Held::Bytes(b"wrote o 4\n"))],
         code: 0,
         out: b"line 1\n",
-        said: b"t.txt:1: no event line; grep -E '^(begin|start|finish|tick|end) ' \
-            takes those of a run's text",
+        said: b"t.txt:1: no event line of this script's nodes; \
+            grep -E '^(begin|start|finish|tick|end) ' takes those of a run's text, \
+            and none ends with a blank or a carriage return",
         ..RUN
     },
 ];
@@ -111,8 +112,9 @@ const TRACES: &'static [Asked] = &[
         script: b"# begin 0\ncycles 1\n",
         code: 0,
         out: b"line 1\n",
-        said: b"s.graph:1: no event line; grep -E '^(begin|start|finish|tick|end) ' \
-            takes those of a run's text",
+        said: b"s.graph:1: no event line of this script's nodes; \
+            grep -E '^(begin|start|finish|tick|end) ' takes those of a run's text, \
+            and none ends with a blank or a carriage return",
         ..RUN
     },
     Asked {
@@ -121,8 +123,9 @@ const TRACES: &'static [Asked] = &[
         files: &[("t.txt", Held::Bytes(b"begin 0\r\n"))],
         code: 0,
         out: b"line 1\n",
-        said: b"t.txt:1: no event line; grep -E '^(begin|start|finish|tick|end) ' \
-            takes those of a run's text",
+        said: b"t.txt:1: no event line of this script's nodes; \
+            grep -E '^(begin|start|finish|tick|end) ' takes those of a run's text, \
+            and none ends with a blank or a carriage return",
         ..RUN
     },
 ];
@@ -182,7 +185,11 @@ const SINKS: &'static [Asked] = &[
         code: 0,
         out: b"link s.out p.in 48000 1 2\nlink s.out o.in 48000 1 2\nwrote o 4\nwrote p 4\n",
         said: b"s.graph:3: \"\"a\\\\b.wav\" is written by a later sink too; \
-            a regular file keeps what is written last",
+            a regular file keeps what is written last\n\
+            pipegraph: s.graph:3: \"\"a\\\\b.wav\" is the whole name of the file; \
+            quotes are a part of it\n\
+            pipegraph: s.graph:4: \"\"a\\\\b.wav\" is the whole name of the file; \
+            quotes are a part of it",
         ..RUN
     },
     Asked {

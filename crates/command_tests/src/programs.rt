@@ -32,7 +32,7 @@ const REFUSED: Told = Told {
     faults: SURE,
     code: 2,
     out: b"script 2 7\n",
-    errors: b"pipegraph: s.graph:2: no node is called \"vox\"\n",
+    errors: b"pipegraph: s.graph:2: no line before this one makes a node called \"vox\"\n",
     failing: (0, 0),
     next_load: 2,
 };

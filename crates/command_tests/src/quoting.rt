@@ -8,7 +8,7 @@ use pw_top::{Status, What};
 use row_files::words_of;
 use std::alloc::Global;
 
-/// A script whose second line names no node, and whose third and fourth have an end that does not.
+/// A script whose second line names no node, and whose third and fourth have an end of none.
 const VOX: &'static [u8] = b"gain a 1\non vox\nlink a.out vox.in\nlink vox.out a.in\ngain vox 1\n";
 
 // What is said of a status of these words, where the run read that script.
@@ -42,21 +42,21 @@ fn the_quoted_line_is_that_of_the_script_that_was_read(rt: HostRuntime) {
         is_unknown(
             alloc,
             2,
-            b"pipegraph: t.graph:2: no node is called \"vox\"\n"
+            b"pipegraph: t.graph:2: no line before this one makes a node called \"vox\"\n"
         )
     );
     assert!(rt;
         is_unknown(
             alloc,
             3,
-            b"pipegraph: t.graph:3: \"vox.in\" names no node\n"
+            b"pipegraph: t.graph:3: no line before this one makes the node of \"vox.in\"\n"
         )
     );
     assert!(rt;
         is_unknown(
             alloc,
             4,
-            b"pipegraph: t.graph:4: \"vox.out\" names no node\n"
+            b"pipegraph: t.graph:4: no line before this one makes the node of \"vox.out\"\n"
         )
     );
 }

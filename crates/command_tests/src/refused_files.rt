@@ -13,7 +13,8 @@ const WHYS: &'static [(Status, FileWhy, &'static [u8])] = &[
     (
         Status::WriteFault { place: 1 },
         FileWhy::NoFolder,
-        b"pipegraph: a: the file cannot be written: there is no such folder\n",
+        b"pipegraph: a: the file cannot be written: there is no such folder, \
+            or it can have no such file\n",
     ),
     (
         Status::WriteFault { place: 1 },

@@ -1,21 +1,22 @@
 -- What is wrong with a file, in words. Source: WAV faults are those of RIFF WAVE PCM; the
 -- sentences and the limits are this project's own.
-use Rattle.std.specs.Prelude.{ℕ, ◌==◌, Bool, true, false, if◌then◌else◌, List, [], ◌++◌, codes, Option, Some, None}
-use Rattle.std.specs.List.{list_any}
+use Rattle.std.specs.Prelude.{ℕ, Bool, true, false, if◌then◌else◌, List, ◌++◌, codes, Option, Some, None}
 use Rattle.graph_script.specs.Lexical.{words_of}
 use Rattle.pw_lists.specs.declared.limit.Which.{Which}
 use Rattle.pw_lists.specs.declared.limit.Which.TheVariants as W
 use Rattle.wav_files.specs.declared.fault.WavFault.{WavFault}
 use Rattle.wav_files.specs.declared.fault.WavFault.TheVariants as F
 use Rattle.system_files.specs.declared.why.FileWhy.{FileWhy}
-use Rattle.system_files.specs.declared.why.FileWhy.TheVariants as Y
-use Rattle.fault_messages.specs.Places.{begins, file_word, file_part}
+use Rattle.system_files.specs.Reasons.{why_said}
+use Rattle.fault_messages.specs.Places.{begins, has_quote, is_dash, file_word, file_part}
 
 abbrev pub wav_said : WavFault → List ℕ
-wav_said F.NotRiff = codes "this is no RIFF WAVE file"
+wav_said F.NotRiff = codes "this is no RIFF WAVE file; "
+    ++ codes "of a sound file ffmpeg -i IN -c:a pcm_s16le OUT.wav makes one"
 wav_said F.NoFmt = codes "there is no fmt chunk before the samples"
 wav_said F.BadFmt = codes "the fmt chunk is not sound"
-wav_said F.NotPcm16 = codes "only PCM of 16 bits a sample is read"
+wav_said F.NotPcm16 = codes "only PCM of 16 bits a sample is read; "
+    ++ codes "sox IN -e signed -b 16 OUT.wav may make that of it"
 wav_said F.NoData = codes "there is no data chunk"
 wav_said F.Truncated = codes "a chunk passes the end of the file, as where it was cut or written"
     ++ codes " to a pipe; sox --ignore-length A B may mend it"
@@ -26,23 +27,16 @@ wav_said F.Memory = codes "no memory was left"
 -- of a file that is not there: what a file word of a script is, where it may be meant otherwise
 abbrev pub absent_text : List ℕ → List ℕ
 absent_text file =
-    if list_any (λ b. b == 0x22) file
-    then codes "there is no such file; quotes are a part of the word"
+    if has_quote file then codes "there is no such file; quotes are a part of the word"
+    else (if is_dash file then codes "there is no such file; standard input is /dev/stdin"
     else (if begins file (codes "/") then codes "there is no such file"
-    else codes "there is no such file; file words are paths from the working directory")
+    else codes "there is no such file; file words are paths from the working directory"))
 
 abbrev pub absent_said : Option (List ℕ) → List ℕ
 absent_said None = codes "there is no such file"
 absent_said (Some line) = absent_text (file_word (words_of line))
 
--- that the system does not read or write it, and its reason, where that is one of these
-abbrev pub why_said : Option FileWhy → List ℕ
-why_said None = []
-why_said (Some Y.NoFolder) = codes ": there is no such folder"
-why_said (Some Y.Folder) = codes ": it is a folder"
-why_said (Some Y.Permission) = codes ": the system does not permit it"
-why_said (Some Y.Full) = codes ": no room is left"
-
+-- that the system does not read or write it, and its reason, where that is known
 abbrev pub read_said : Option FileWhy → List ℕ
 read_said why = codes "the file cannot be read" ++ why_said why
 

@@ -19,9 +19,12 @@ loop_said link =
     if link.from.node == link.to.node then codes "a node is not linked to itself"
     else codes "it would close a loop, which only a link of an async node may"
 
--- of a key: where the channels differ, what makes two of one
+-- of a key: of channels, what makes two of one
 abbrev pub map_part : ℕ → List ℕ
-map_part key = if key == 65540 then codes "; map NAME 1 0,0 makes two channels of one" else []
+map_part key =
+    if key == 65540
+    then codes "; where one side has one channel and the other two, map NAME 1 0,0 makes two of one"
+    else []
 
 -- whether a link is not made, and the cause; nothing of lines that did what they ask for
 abbrev pub is_refused : LineOutcome → Bool

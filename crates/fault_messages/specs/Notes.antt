@@ -10,6 +10,7 @@ use Rattle.command_frame.specs.declared.work.Work.{Work}
 use Rattle.run_results.specs.declared.found.What.{What}
 use Rattle.run_results.specs.declared.found.What.TheVariants as W
 use Rattle.shown_words.specs.Escaping.{escaped}
+use Rattle.fault_messages.specs.ClippedSinks.{stored_note}
 use Rattle.fault_messages.specs.KeyNames.{key_clash}
 use Rattle.fault_messages.specs.LinkNotes.{link_notes}
 use Rattle.fault_messages.specs.NoteHeads.{trace_note}
@@ -30,8 +31,8 @@ check_note words names None event = []
 check_note words names (Some reason) event = reason_note words names event reason
 
 unfoldable pub no_event : List ℕ
-no_event =
-    codes "no event line; grep -E '^(begin|start|finish|tick|end) ' takes those of a run's text"
+no_event = codes "no event line of this script's nodes; grep -E '^(begin|start|finish|tick|end) '"
+    ++ codes " takes those of a run's text, and none ends with a blank or a carriage return"
 
 -- of a filter: the key under which the objects clash
 unfoldable pub pair_head : List ℕ → List ℕ → List ℕ
@@ -45,10 +46,15 @@ abbrev pub clash_note : Words → Option ℕ → List ℕ
 clash_note words key =
     pair_head (word words 1) (word words 2) ++ (clash_text key ++ codes "\n")
 
+-- of a command that finds nothing: the wave that it stored, if it did
+abbrev pub work_note : Words → Option Work → List ℕ
+work_note words None = []
+work_note words (Some work) = stored_note words work.stores
+
 -- THE NOTES, by what was found and what was stored
 abbrev pub notes : Words → What → Option Work → List ℕ
-notes words W.Nothing work = []
-notes words (W.Run script plan peaks) work = run_notes words script plan peaks work
+notes words W.Nothing work = work_note words work
+notes words (W.Run script plan peaks refused) work = run_notes words script plan peaks work
 notes words (W.Check names reason event) work = check_note words names reason event
 notes words (W.NoEvent n) work = trace_note words n no_event
 notes words (W.Clash key) work = clash_note words key

@@ -2,7 +2,7 @@
 -- own.
 use Rattle.std.specs.Prelude.{ℕ, ◌==◌, ◌-◌, ◌&&◌, ◌||◌, not, Bool, if◌then◌else◌, List, [], ◌++◌, take}
 use Rattle.std.specs.Prelude.{codes, decimal, bytes_eq, nat_eq, slice_get, slice_index_or, Option, Some, None}
-use Rattle.std.specs.List.{starts_with}
+use Rattle.std.specs.List.{list_any, starts_with}
 use Rattle.graph_script.specs.Lexical.{lines_of, words_of}
 use Rattle.run_results.specs.Places.{trace_place}
 use Rattle.shown_words.specs.Escaping.{escaped}
@@ -18,6 +18,13 @@ word words i = slice_index_or words i []
 -- whether bytes begin with these
 abbrev pub begins : List ℕ → List ℕ → Bool
 begins bytes head = starts_with nat_eq bytes head
+
+-- a word with a quote in it, and one that is a dash, which other programs may take otherwise
+abbrev pub has_quote : List ℕ → Bool
+has_quote w = list_any (λ b. b == 0x22) w
+
+abbrev pub is_dash : List ℕ → Bool
+is_dash w = bytes_eq w (codes "-")
 
 -- a command that reads a script, and the places that are lines of it
 abbrev pub reads_script : List (List ℕ) → Bool

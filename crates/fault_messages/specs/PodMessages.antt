@@ -38,29 +38,33 @@ carried (P.Deep offset) = Some offset
 carried (P.Large size) = Some size
 carried (P.Nul offset) = Some offset
 carried (P.Rest offset) = Some offset
-carried P.NotObject = None
 carried (P.KeyTwice key) = Some key
 carried (P.FlagsChoice key) = Some key
 carried (P.BadRange key) = Some key
 carried (P.BadStep key) = Some key
 carried (P.EmptyChoice key) = Some key
-carried P.NotFormat = None
 carried (P.Clash key) = Some key
-carried P.NotSequence = None
 carried (P.OffsetFalls index) = Some index
 carried (P.NotProps index) = Some index
 carried (P.GainForm index) = Some index
+carried _ = None
 
 abbrev pub number_text : Option ℕ → List ℕ
 number_text None = []
 number_text (Some n) = decimal n
 
--- after the number: the name of a key, and of a size the four letters that a WAV file begins with
+-- after the number: the name of a key; of a size what a WAV file begins with, or what makes a POD
 abbrev pub size_part : ℕ → List ℕ
 size_part size =
-    if size == 0x46464952 then codes "; it begins with RIFF, as a WAV file does" else []
+    if size == 0x46464952 then codes "; it begins with RIFF, as a WAV file does"
+    else codes "; pipegraph-pods makes a POD of a list or of a dump's text"
+
+abbrev pub short_part : ℕ → List ℕ
+short_part offset =
+    if offset == 0 then codes "; pipegraph-pods makes a POD of a list or of a dump's text" else []
 
 abbrev pub pod_behind : PodWhy → List ℕ
+pod_behind (P.Short offset) = short_part offset
 pod_behind (P.Large size) = size_part size
 pod_behind (P.KeyTwice key) = key_part key
 pod_behind (P.FlagsChoice key) = key_part key

@@ -1,11 +1,11 @@
--- Which files sinks have stored, and notes on those that a later sink writes too or a source reads.
--- Source: this project's own.
+-- Which files sinks have stored, and notes on those that a later sink writes too or a source reads,
+-- and on names that may be meant otherwise. Source: this project's own.
 use Rattle.std.specs.Prelude.{ℕ, ◌&&◌, Bool, List, [], ◌++◌, codes, bytes_eq, nat_lt, if◌then◌else◌}
 use Rattle.std.specs.List.{list_any}
 use Rattle.command_frame.specs.declared.work.Store.{Store}
 use Rattle.graph_script.specs.declared.script.Line.{Line}
 use Rattle.fault_messages.specs.NoteHeads.{note_at}
-use Rattle.fault_messages.specs.Places.{Words, quoted}
+use Rattle.fault_messages.specs.Places.{Words, has_quote, is_dash, quoted}
 use Rattle.fault_messages.specs.ScriptLines.{is_read}
 
 -- a store of this file, also of a line after this one; and whether there is one
@@ -29,6 +29,18 @@ overwritten file = quoted file
 abbrev pub later_note : Words → List Store → ℕ → List ℕ → List ℕ
 later_note words stores n file =
     if is_written_later stores n file then note_at words n (overwritten file) else []
+
+-- THE NOTE on the name of the file of a sink, where other programs may take it otherwise
+unfoldable pub quotes_kept : List ℕ → List ℕ
+quotes_kept file = quoted file ++ codes " is the whole name of the file; quotes are a part of it"
+
+unfoldable pub dash_kept : List ℕ
+dash_kept = codes "\"-\" is the name of the file; standard output is /dev/stdout"
+
+abbrev pub name_note : Words → ℕ → List ℕ → List ℕ
+name_note words n file =
+    if has_quote file then note_at words n (quotes_kept file)
+    else (if is_dash file then note_at words n dash_kept else [])
 
 -- THE NOTE on a file that a source of the script reads
 unfoldable pub read_too : List ℕ → List ℕ

@@ -1,8 +1,8 @@
 -- What is wrong with the words of a command line. Source: the grammar is this project's own.
-use Rattle.std.specs.Prelude.{ℕ, ◌-◌, ◌==◌, List, ◌++◌, codes, length, nat_lt, bytes_eq, Option, Some, None, if◌then◌else◌}
+use Rattle.std.specs.Prelude.{ℕ, ◌-◌, ◌==◌, ◌&&◌, not, List, ◌++◌, codes, length, nat_lt, bytes_eq, Option, Some, None, if◌then◌else◌}
 use Rattle.shown_words.specs.Escaping.{escaped}
 use Rattle.fault_messages.specs.MainWords.{main_meant, option_meant, wanted, is_option, has_both, is_script_path}
-use Rattle.fault_messages.specs.Places.{begins, word, quoted}
+use Rattle.fault_messages.specs.Places.{begins, word, is_dash, quoted}
 
 -- the first word, which is no command
 unfoldable pub other_main : List ℕ → List ℕ
@@ -19,12 +19,15 @@ main_text w (Some name) =
     quoted w ++ (codes " is no command; did you mean " ++ (quoted name ++ codes "?"))
 
 -- a word where a file is wanted
-abbrev pub file_rule : List ℕ → List ℕ
-file_rule w = quoted w ++ codes ": a file word has 1 to 255 bytes, the first of them no -"
+unfoldable pub file_rule : List ℕ → List ℕ
+file_rule w =
+    if is_dash w then quoted w ++ codes " is no file word; standard input is /dev/stdin"
+    else quoted w ++ codes ": a file word has 1 to 255 bytes, the first of them no -"
 
 unfoldable pub script_rule : List ℕ → List ℕ
 script_rule w =
-    if begins w (codes "-") then quoted w ++ codes " is no SCRIPT; SCRIPT comes before the options"
+    if begins w (codes "-") && not (is_dash w)
+    then quoted w ++ codes " is no SCRIPT; SCRIPT comes before the options"
     else file_rule w
 
 -- a word where an option is wanted

@@ -1,11 +1,15 @@
-//! Sinks whose samples reach the limits of 16 bits, in words.
-ghost use Rattle.std.specs.Prelude.{◌≡◌, ◌++◌, map, string_bytes, OnOk};
+//! Sinks, and a stored wave, whose samples reach the limits of 16 bits, in words.
+ghost use Rattle.std.specs.Prelude.{◌≡◌, ◌++◌, decimal, map, string_bytes, OnOk};
 ghost use Rattle.fault_messages.specs.ClippedSinks.{limit_words, clipped_said, clipped_part, clipped_note};
+ghost use Rattle.shown_words.specs.Escaping.{escaped};
+ghost use Rattle.fault_messages.specs.ClippedSinks.{wave_said, wave_part, stored_note};
 
 use crate::note_heads::put_note_head;
-use crate::putting::put_behind;
-use crate::sink_waves::at_limit;
+use crate::places::word_at;
+use crate::putting::{put_behind, put_shown_number};
+use crate::sink_waves::{at_limit, samples_at};
 use pw_lists::{Memory, Text, append_decimal};
+use run_results::Store;
 
 #[tactic(auto, unfolding(crate::specs::ClippedSinks::limit_words))]
 fn limit_words(count: u64) -> &'static [u8]
@@ -58,4 +62,48 @@ pub fn put_clipped_note(
         ++ clipped_note (map string_bytes words.now) samples.now number name.now) }
 {
     put_clipped_part(text, words, number, name, at_limit(samples))
+}
+
+// A word as it is shown, with words before and after it, and that so many samples are at the limit.
+fn put_shown_count(
+    text: &mut Text,
+    before: &[u8],
+    word: &[u8],
+    between: &[u8],
+    count: u64,
+) -> Result<(), Memory>
+    ensures { OnOk result (text.new ≡ text.old ++ (before.now ++ (escaped word.now
+        ++ (between.now ++ (decimal count ++ limit_words count))))) }
+{
+    put_shown_number(text, before, word, between, count, limit_words(count))
+}
+
+// That so many samples of a file are at the limit.
+#[tactic(auto, unfolding(crate::specs::ClippedSinks::wave_said))]
+fn put_wave_said(text: &mut Text, file: &[u8], count: u64) -> Result<(), Memory>
+    ensures { OnOk result (text.new ≡ text.old ++ wave_said file.now count) }
+{
+    put_shown_count(text, b"pipegraph: ", file, b": ", count)
+}
+
+fn put_wave_part(text: &mut Text, file: &[u8], count: u64) -> Result<(), Memory>
+    ensures { OnOk result (text.new ≡ text.old ++ wave_part file.now count) }
+{
+    if count == 0 {
+        return Ok(());
+    }
+    put_wave_said(text, file, count)?;
+    text.extend(b"\n")
+}
+
+/// The note on the wave that is stored in the file of the third word after the command. Cost: one
+/// look at each sample.
+pub fn put_stored_note(text: &mut Text, words: &[String], stores: &[Store]) -> Result<(), Memory>
+    ensures { OnOk result (text.new ≡ text.old
+        ++ stored_note (map string_bytes words.now) stores.now) }
+{
+    match samples_at(stores, 3) {
+        None => Ok(()),
+        Some(samples) => put_wave_part(text, word_at(words, 3), at_limit(samples)),
+    }
 }

@@ -1,14 +1,15 @@
 //! What is wrong with a file, in words.
-ghost use Rattle.std.specs.Prelude.{◌≡◌, ◌==◌, ◌++◌, option_copied, OnOk};
-ghost use Rattle.std.specs.List.{list_any};
+ghost use Rattle.std.specs.Prelude.{◌≡◌, ◌++◌, option_copied, OnOk};
 ghost use Rattle.fault_messages.specs.FileMessages.{wav_said, absent_text, absent_said};
 ghost use Rattle.fault_messages.specs.FileMessages.{read_said, write_said};
+ghost use Rattle.system_files.specs.Reasons.{why_said};
 ghost use Rattle.fault_messages.specs.FileMessages.{limit_said, is_of_file, limit_text};
 
 use crate::lines::begins;
-use crate::places::{file_word, put_file};
+use crate::places::{file_word, has_quote, is_dash, put_file};
+use crate::putting::put_both;
 use pw_lists::{Memory, Text, Which};
-use system_files::FileWhy;
+use system_files::{FileWhy, why_words};
 use wav_files::WavFault;
 
 /// Why a WAV file is refused.
@@ -16,10 +17,16 @@ pub fn wav_said(why: WavFault) -> &'static [u8]
     ensures { result.now ≡ wav_said why }
 {
     match why {
-        WavFault::NotRiff => b"this is no RIFF WAVE file",
+        WavFault::NotRiff => {
+            b"this is no RIFF WAVE file; \
+                of a sound file ffmpeg -i IN -c:a pcm_s16le OUT.wav makes one"
+        }
         WavFault::NoFmt => b"there is no fmt chunk before the samples",
         WavFault::BadFmt => b"the fmt chunk is not sound",
-        WavFault::NotPcm16 => b"only PCM of 16 bits a sample is read",
+        WavFault::NotPcm16 => {
+            b"only PCM of 16 bits a sample is read; \
+                sox IN -e signed -b 16 OUT.wav may make that of it"
+        }
         WavFault::NoData => b"there is no data chunk",
         WavFault::Truncated => {
             b"a chunk passes the end of the file, as where it was cut or written \
@@ -33,19 +40,14 @@ pub fn wav_said(why: WavFault) -> &'static [u8]
     }
 }
 
-// Whether a quote is in the word.
-fn has_quote(word: &[u8]) -> bool
-    ensures { result ≡ list_any (λ b. b == 0x22) word.now }
-{
-    word.iter().any(|b| *b == b'"')
-}
-
 // That a file of a script is not there.
 fn absent_text(file: &[u8]) -> &'static [u8]
     ensures { result.now ≡ absent_text file.now }
 {
     if has_quote(file) {
         b"there is no such file; quotes are a part of the word"
+    } else if is_dash(file) {
+        b"there is no such file; standard input is /dev/stdin"
     } else if begins(file, b"/") {
         b"there is no such file"
     } else {
@@ -63,30 +65,25 @@ pub fn absent_said(line: Option<&[u8]>) -> &'static [u8]
     }
 }
 
-/// That a file is not read, and why, where that is known.
-pub fn read_said(why: Option<FileWhy>) -> &'static [u8]
-    ensures { result.now ≡ read_said why }
+// That something is not done, and why, where that is known.
+fn put_why(text: &mut Text, what: &[u8], why: Option<FileWhy>) -> Result<(), Memory>
+    ensures { OnOk result (text.new ≡ text.old ++ (what.now ++ why_said why)) }
 {
-    match why {
-        None => b"the file cannot be read",
-        Some(FileWhy::NoFolder) => b"the file cannot be read: there is no such folder",
-        Some(FileWhy::Folder) => b"the file cannot be read: it is a folder",
-        Some(FileWhy::Permission) => b"the file cannot be read: the system does not permit it",
-        Some(FileWhy::Full) => b"the file cannot be read: no room is left",
-    }
+    put_both(text, what, why_words(why))
+}
+
+/// That a file is not read, and why, where that is known.
+pub fn put_read_said(text: &mut Text, why: Option<FileWhy>) -> Result<(), Memory>
+    ensures { OnOk result (text.new ≡ text.old ++ read_said why) }
+{
+    put_why(text, b"the file cannot be read", why)
 }
 
 /// That a file is not written, and why, where that is known.
-pub fn write_said(why: Option<FileWhy>) -> &'static [u8]
-    ensures { result.now ≡ write_said why }
+pub fn put_write_said(text: &mut Text, why: Option<FileWhy>) -> Result<(), Memory>
+    ensures { OnOk result (text.new ≡ text.old ++ write_said why) }
 {
-    match why {
-        None => b"the file cannot be written",
-        Some(FileWhy::NoFolder) => b"the file cannot be written: there is no such folder",
-        Some(FileWhy::Folder) => b"the file cannot be written: it is a folder",
-        Some(FileWhy::Permission) => b"the file cannot be written: the system does not permit it",
-        Some(FileWhy::Full) => b"the file cannot be written: no room is left",
-    }
+    put_why(text, b"the file cannot be written", why)
 }
 
 /// What passes a limit.

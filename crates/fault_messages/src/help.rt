@@ -16,5 +16,7 @@ pub fn help() -> &'static [u8]
       \x20 soak NUMBER         runs the graph of a number by four loops\n\
       \x20 groups SCRIPT       runs each linked part of a graph with its own driver\n\
       \n\
+      pipegraph-pods makes PODs and control sequences, \
+      pipegraph-pictures draws graphs, traces and waves\n\
       The manual: man pipegraph where it is installed, and man -l docs/pipegraph.1\n"
 }

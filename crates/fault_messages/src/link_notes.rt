@@ -31,7 +31,7 @@ fn map_part(key: u32) -> &'static [u8]
     ensures { result.now ≡ map_part key }
 {
     if key == CHANNELS_KEY {
-        b"; map NAME 1 0,0 makes two channels of one"
+        b"; where one side has one channel and the other two, map NAME 1 0,0 makes two of one"
     } else {
         b""
     }

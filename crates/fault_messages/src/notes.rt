@@ -1,8 +1,9 @@
 //! Notes on a command that was accepted.
 ghost use Rattle.std.specs.Prelude.{◌≡◌, ◌++◌, map, string_bytes, OnOk};
-ghost use Rattle.fault_messages.specs.Notes.{run_notes, check_note, no_event, pair_head, clash_text, clash_note, notes};
+ghost use Rattle.fault_messages.specs.Notes.{run_notes, check_note, no_event, pair_head, clash_text, clash_note, work_note, notes};
 ghost use Rattle.fault_messages.specs.NoteHeads.{trace_note};
 
+use crate::clipped_sinks::put_stored_note;
 use crate::key_names::put_key_clash;
 use crate::link_notes::put_link_notes;
 use crate::note_heads::put_trace_head;
@@ -60,7 +61,8 @@ fn put_check_note(
 fn no_event() -> &'static [u8]
     ensures { result.now ≡ no_event }
 {
-    b"no event line; grep -E '^(begin|start|finish|tick|end) ' takes those of a run's text"
+    b"no event line of this script's nodes; grep -E '^(begin|start|finish|tick|end) ' \
+        takes those of a run's text, and none ends with a blank or a carriage return"
 }
 
 // Of a line of a trace that is no event.
@@ -100,6 +102,17 @@ fn put_clash_note(text: &mut Text, words: &[String], key: Option<u32>) -> Result
     text.extend(b"\n")
 }
 
+// Of a command that finds nothing: the wave that it stored, if it did.
+fn put_work_note(text: &mut Text, words: &[String], work: &Option<Work>) -> Result<(), Memory>
+    ensures { OnOk result (text.new ≡ text.old
+        ++ work_note (map string_bytes words.now) work.now) }
+{
+    match work {
+        None => Ok(()),
+        Some(work) => put_stored_note(text, words, work.stores.as_slice()),
+    }
+}
+
 /// What is to be said of a command that was accepted, by its words, by what it found and by what it
 /// stored.
 pub fn put_notes(
@@ -112,11 +125,12 @@ pub fn put_notes(
         ++ notes (map string_bytes words.now) what.now work.now) }
 {
     match what {
-        What::Nothing => Ok(()),
+        What::Nothing => put_work_note(text, words, work),
         What::Run {
             script,
             plan,
             peaks,
+            ..
         } => put_run_notes(text, words, script, plan, peaks.as_slice(), work),
         What::Check {
             names,

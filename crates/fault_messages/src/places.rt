@@ -1,6 +1,7 @@
 //! Where a fault is, as people write it.
 ghost use Rattle.std.specs.Prelude.{◌≡◌, ◌++◌, map, string_bytes, option_copied, OnOk};
-ghost use Rattle.fault_messages.specs.Places.{word, reads_script, is_line, script_place, place_text, file_word, file_part};
+ghost use Rattle.fault_messages.specs.Places.{word, has_quote, is_dash, reads_script, is_line, script_place, place_text};
+ghost use Rattle.fault_messages.specs.Places.{file_word, file_part};
 ghost use Rattle.graph_script.specs.Lexical.{words_of};
 
 use crate::lines::word_of;
@@ -61,6 +62,20 @@ pub fn put_place(text: &mut Text, words: &[String], place: u32) -> Result<(), Me
     } else {
         put_escaped(text, word_at(words, place))
     }
+}
+
+/// Whether a quote is in the word.
+pub fn has_quote(word: &[u8]) -> bool
+    ensures { result ≡ has_quote word.now }
+{
+    word.iter().any(|b| *b == b'"')
+}
+
+/// Whether the word is a dash, which other programs may take otherwise.
+pub fn is_dash(word: &[u8]) -> bool
+    ensures { result ≡ is_dash word.now }
+{
+    word == b"-".as_slice()
 }
 
 /// The file that a line names.

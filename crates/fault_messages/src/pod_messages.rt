@@ -1,6 +1,7 @@
 //! Why a POD is refused, in words.
 ghost use Rattle.std.specs.Prelude.{◌≡◌, ◌++◌, OnOk};
-ghost use Rattle.fault_messages.specs.PodMessages.{pod_words, carried, number_text, size_part, pod_behind, pod_said};
+ghost use Rattle.fault_messages.specs.PodMessages.{pod_words, carried, number_text, size_part, short_part};
+ghost use Rattle.fault_messages.specs.PodMessages.{pod_behind, pod_said};
 
 use crate::key_names::put_key;
 use pw_lists::{Memory, Text, append_decimal};
@@ -50,15 +51,13 @@ fn carried(why: PodWhy) -> Option<u32>
         PodWhy::Large { size } => Some(size),
         PodWhy::Nul { offset } => Some(offset),
         PodWhy::Rest { offset } => Some(offset),
-        PodWhy::NotObject => None,
+        PodWhy::NotObject | PodWhy::NotFormat | PodWhy::NotSequence => None,
         PodWhy::KeyTwice { key } => Some(key),
         PodWhy::FlagsChoice { key } => Some(key),
         PodWhy::BadRange { key } => Some(key),
         PodWhy::BadStep { key } => Some(key),
         PodWhy::EmptyChoice { key } => Some(key),
-        PodWhy::NotFormat => None,
         PodWhy::Clash { key } => Some(key),
-        PodWhy::NotSequence => None,
         PodWhy::OffsetFalls { index } => Some(index),
         PodWhy::NotProps { index } => Some(index),
         PodWhy::GainForm { index } => Some(index),
@@ -74,12 +73,23 @@ fn put_carried(text: &mut Text, why: PodWhy) -> Result<(), Memory>
     }
 }
 
-// What is said of a size that is the beginning of a WAV file.
+// What is said of a size: that it is the beginning of a WAV file, or what makes a POD.
 fn size_part(size: u32) -> &'static [u8]
     ensures { result.now ≡ size_part size }
 {
     if size == RIFF {
         b"; it begins with RIFF, as a WAV file does"
+    } else {
+        b"; pipegraph-pods makes a POD of a list or of a dump's text"
+    }
+}
+
+// What is said of a file that is shorter than the POD that it begins with.
+fn short_part(offset: u32) -> &'static [u8]
+    ensures { result.now ≡ short_part offset }
+{
+    if offset == 0 {
+        b"; pipegraph-pods makes a POD of a list or of a dump's text"
     } else {
         b""
     }
@@ -90,6 +100,7 @@ fn put_pod_behind(text: &mut Text, why: PodWhy) -> Result<(), Memory>
     ensures { OnOk result (text.new ≡ text.old ++ pod_behind why) }
 {
     match why {
+        PodWhy::Short { offset } => text.extend(short_part(offset)),
         PodWhy::Large { size } => text.extend(size_part(size)),
         PodWhy::KeyTwice { key } => put_key(text, key),
         PodWhy::FlagsChoice { key } => put_key(text, key),

@@ -37,7 +37,7 @@ fn script_text(why: ScriptWhy) -> &'static [u8]
         ScriptWhy::Number => b"a number is out of range, or has the wrong form",
         ScriptWhy::NameForm => b"a name, a port or a file word has the wrong form",
         ScriptWhy::NameTaken => b"the name is taken",
-        ScriptWhy::NameUnknown => b"no node has this name",
+        ScriptWhy::NameUnknown => b"no line before this one makes a node of this name",
         ScriptWhy::PortUnknown => b"the node has no such port",
         ScriptWhy::QuantumLate => b"quantum must stand before every other command",
         ScriptWhy::NotDriverKind => b"only a sink or a meter may drive",

@@ -5,7 +5,7 @@ ghost use Rattle.fault_messages.specs.Message.{is_help_word, asks_help};
 ghost use Rattle.fault_messages.specs.Message.{synopsis, at_place, sentence, before, after, message_of, words_message};
 
 use crate::cycle_room::put_room;
-use crate::file_messages::{absent_said, put_limit, read_said, wav_said, write_said};
+use crate::file_messages::{absent_said, put_limit, put_read_said, put_write_said, wav_said};
 use crate::help::help;
 use crate::places::{put_file, put_place, word_at};
 use crate::pod_messages::put_pod;
@@ -82,9 +82,15 @@ fn put_sentence(
             put_pod(text, why)
         }
         Status::Absent { place } => put_file_fault(text, words, place, line, absent_said(line)),
-        Status::ReadFault { place } => put_file_fault(text, words, place, line, read_said(why)),
+        Status::ReadFault { place } => {
+            put_file_fault(text, words, place, line, b"")?;
+            put_read_said(text, why)
+        }
         Status::WriteFault { place: 0 } => text.extend(b"standard output cannot be written"),
-        Status::WriteFault { place } => put_file_fault(text, words, place, line, write_said(why)),
+        Status::WriteFault { place } => {
+            put_file_fault(text, words, place, line, b"")?;
+            put_write_said(text, why)
+        }
         Status::Limit { place, which } => {
             put_colon(text, words, place)?;
             put_limit(text, which, line)?;

@@ -2,9 +2,11 @@
 //! reads.
 ghost use Rattle.std.specs.Prelude.{◌≡◌, ◌++◌, map, string_bytes, OnOk};
 ghost use Rattle.fault_messages.specs.SinkFiles.{writes, writes_later, is_written, is_written_later};
+ghost use Rattle.fault_messages.specs.SinkFiles.{quotes_kept, dash_kept, name_note};
 ghost use Rattle.fault_messages.specs.SinkFiles.{overwritten, later_note, read_too, source_note};
 
 use crate::note_heads::put_note_head;
+use crate::places::{has_quote, is_dash};
 use crate::putting::put_behind;
 use crate::script_lines::is_read;
 use graph_script::Line;
@@ -81,6 +83,47 @@ pub fn put_later_note(
     put_note_head(text, words, number)?;
     put_overwritten(text, file)?;
     text.extend(b"\n")
+}
+
+#[tactic(auto, unfolding(crate::specs::SinkFiles::quotes_kept))]
+fn put_quotes_kept(text: &mut Text, file: &[u8]) -> Result<(), Memory>
+    ensures { OnOk result (text.new ≡ text.old ++ quotes_kept file.now) }
+{
+    put_behind(
+        text,
+        file,
+        b" is the whole name of the file; quotes are a part of it",
+    )
+}
+
+#[tactic(auto, unfolding(crate::specs::SinkFiles::dash_kept))]
+fn dash_kept() -> &'static [u8]
+    ensures { result.now ≡ dash_kept }
+{
+    b"\"-\" is the name of the file; standard output is /dev/stdout"
+}
+
+/// The note on the name of the file of a sink, where other programs may take it otherwise.
+pub fn put_name_note(
+    text: &mut Text,
+    words: &[String],
+    number: u32,
+    file: &[u8],
+) -> Result<(), Memory>
+    ensures { OnOk result (text.new ≡ text.old
+        ++ name_note (map string_bytes words.now) number file.now) }
+{
+    if has_quote(file) {
+        put_note_head(text, words, number)?;
+        put_quotes_kept(text, file)?;
+        text.extend(b"\n")
+    } else if is_dash(file) {
+        put_note_head(text, words, number)?;
+        text.extend(dash_kept())?;
+        text.extend(b"\n")
+    } else {
+        Ok(())
+    }
 }
 
 #[tactic(auto, unfolding(crate::specs::SinkFiles::read_too))]

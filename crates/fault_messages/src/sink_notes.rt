@@ -9,7 +9,7 @@ use crate::clipped_sinks::put_clipped_note;
 use crate::empty_sinks::{put_empty_note, put_still_note};
 use crate::note_heads::put_note_head;
 use crate::putting::{put_behind, put_quoted_pair, put_two_quoted};
-use crate::sink_files::{is_written, put_later_note, put_source_note};
+use crate::sink_files::{is_written, put_later_note, put_name_note, put_source_note};
 use crate::sink_waves::samples_at;
 use graph_script::{Command, Line, Script};
 use pw_lists::{Memory, Text};
@@ -64,7 +64,8 @@ fn put_unused_meter(text: &mut Text, name: &[u8]) -> Result<(), Memory>
     put_behind(text, name, b" had no format at the end, so it has no peak")
 }
 
-// Of the file of a sink that stored samples: that a later sink writes it too, or a source reads it.
+// Of the file of a sink that stored samples: that a later sink writes it too, that a source reads
+// it, or what its name is.
 fn put_file_notes(
     text: &mut Text,
     words: &[String],
@@ -77,7 +78,8 @@ fn put_file_notes(
         ++ file_notes (map string_bytes words.now) lines.now stores.now number file.now) }
 {
     put_later_note(text, words, stores, number, file)?;
-    put_source_note(text, words, lines, number, file)
+    put_source_note(text, words, lines, number, file)?;
+    put_name_note(text, words, number, file)
 }
 
 // Of the samples that a sink stored: that there are none, or how many are at a limit.

@@ -7,7 +7,7 @@ ghost use Rattle.fault_messages.specs.Usages.{argument_rule, other_rule, word_te
 
 use crate::lines::begins;
 use crate::main_words::{has_both, is_option, is_script_path, main_meant, option_meant, wanted};
-use crate::places::word_at;
+use crate::places::{is_dash, word_at};
 use crate::putting::{put_before, put_behind, put_quoted_shown, put_two_quoted};
 use pw_lists::{Memory, Text};
 
@@ -42,21 +42,30 @@ fn put_main(text: &mut Text, word: &[u8]) -> Result<(), Memory>
 }
 
 // A word where a file is wanted.
+#[tactic(auto, unfolding(crate::specs::Usages::file_rule))]
 fn put_file_rule(text: &mut Text, word: &[u8]) -> Result<(), Memory>
     ensures { OnOk result (text.new ≡ text.old ++ file_rule word.now) }
 {
-    put_behind(
-        text,
-        word,
-        b": a file word has 1 to 255 bytes, the first of them no -",
-    )
+    if is_dash(word) {
+        put_behind(
+            text,
+            word,
+            b" is no file word; standard input is /dev/stdin",
+        )
+    } else {
+        put_behind(
+            text,
+            word,
+            b": a file word has 1 to 255 bytes, the first of them no -",
+        )
+    }
 }
 
 #[tactic(auto, unfolding(crate::specs::Usages::script_rule))]
 fn put_script_rule(text: &mut Text, word: &[u8]) -> Result<(), Memory>
     ensures { OnOk result (text.new ≡ text.old ++ script_rule word.now) }
 {
-    if begins(word, b"-") {
+    if begins(word, b"-") && !is_dash(word) {
         put_behind(
             text,
             word,
