@@ -17,7 +17,9 @@ const PROPS: Held<'static> = Held::Words(&[32, 15, 262146, 3, 65539, 0, 4, 4, 48
 
 /// Two formats of different rates, an object of another type, and a format with itself.
 const CLASH: &'static [FileRow<'static>] = &[("a.pod", AT_48000), ("b.pod", OTHER)];
+
 const TYPES: &'static [FileRow<'static>] = &[("a.pod", AT_48000), ("b.pod", PROPS)];
+
 const SAME: &'static [FileRow<'static>] = &[("a.pod", AT_48000), ("b.pod", AT_48000)];
 
 // What a filter finds of these files, where one put fails, if any.

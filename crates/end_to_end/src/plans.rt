@@ -6,7 +6,7 @@ use crate::offers::{AT_44100, AT_48000};
 use pw_graph::{LineOutcome, LinkLine, Plan, PortId};
 use pw_lists::{Items, Memory, Text};
 use pw_top::What;
-use row_files::{FileRow, Faults, Held, SURE, files_of};
+use row_files::{Faults, FileRow, Held, SURE, files_of};
 use std::sync::Wait;
 use std::test::Fail;
 use std::thread::Threads;
@@ -47,6 +47,7 @@ const SUNK: LinkLine = LinkLine {
     to: PortId { node: 3, port: 0 },
     outcome: LINKED,
 };
+
 const REFUSED: LinkLine = LinkLine {
     outcome: LineOutcome::NoFormat { key: 65_539 },
     ..SUNK
