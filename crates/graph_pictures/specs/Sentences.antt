@@ -43,7 +43,7 @@ bytes_said which = codes ": it has more than 268435456 bytes\n"
 -- the forms of the commands, the version, and where the manual is
 abbrev pub usage_said : List ℕ
 usage_said = codes "usage: pipegraph-pictures graph SCRIPT [TRACE] | " ++ codes
-    "timeline SCRIPT TRACE [FROM TO] | wave FILE\n" ++ codes
+    "timeline SCRIPT TRACE [FROM TO] [VERDICT] | wave FILE\n" ++ codes
     "version 0.1; the manual: man pipegraph-pictures where it is installed, and " ++ codes
     "man -l docs/pipegraph-pictures.1\n"
 
