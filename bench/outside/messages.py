@@ -12,6 +12,9 @@ SYNOPSIS = """usage: pipegraph run SCRIPT [--loops N] [--ticks N] [--trace] [--s
        pipegraph groups SCRIPT
 """
 UNWRITTEN = "the file cannot be written: there is no such folder"
+UNREAD = "the system refuses it"  # a file, in the words of pipegraph-pictures
+REASONS = ["it is a folder", "there is no such folder", "the system does not permit it",
+           "no room is left"]
 
 # A word, and how every program shows it.
 ODD = [("a\x1b[1m\x7f", "a\\x1b[1m\\x7f"), ("a\x85b\x9f", "a\\xc2\\x85b\\xc2\\x9f"),
@@ -104,7 +107,39 @@ def sentences(place):
         place.same("a full output for help",
                    (7, b"", b"pipegraph-pods: standard output cannot be written\n"),
                    told(place, ["--help"], of=PODS, to=full))
+    refused_files(place)
     odd_words(place)
+
+
+def refused_files(place):
+    """The two smaller programs say why the system refuses a file, as pipegraph does."""
+    place.file("fade.gains", "0 256\n")
+    place.file("closed", "0 256\n").chmod(0)
+    nobody = not os.getuid()  # to root each file is open, so it asks as somebody else
+    folder, missing, closed, full = (f": {why}\n" for why in REASONS)
+    read, write = "it cannot be read", "it cannot be written"
+    fade = ["gains", "fade.gains"]
+    for of, words, status, line, sentence in [
+            (PICTURES, ["graph", "."], 6, "read 0\n",
+             f"cannot read .: {UNREAD}{folder}"),
+            (PICTURES, ["timeline", "fine.graph", "/"], 6, "read 4294967295\n",
+             f"cannot read /: {UNREAD}{folder}"),
+            (PICTURES, ["wave", "vox.wav/a"], 6, "read 1\n",
+             f"cannot read vox.wav/a: {UNREAD}{missing}"),
+            (PICTURES, ["graph", "closed"], 6, "read 0\n",
+             f"cannot read closed: {UNREAD}{closed}"),
+            (PICTURES, ["graph", "no/s.graph"], 5, "absent 0\n",
+             "cannot read no/s.graph: there is no such file\n"),
+            (PODS, ["gains", ".", "o"], 6, "", f'".": {read}{folder}'),
+            (PODS, ["pod", "vox.wav/a", "o"], 6, "", f'"vox.wav/a": {read}{missing}'),
+            (PODS, ["gains", "closed", "o"], 6, "", f'"closed": {read}{closed}'),
+            (PODS, [*fade, "no/o"], 7, "", f'"no/o": {write}{missing}'),
+            (PODS, [*fade, "vox.wav/a"], 7, "", f'"vox.wav/a": {write}{missing}'),
+            (PODS, [*fade, "/tmp"], 7, "", f'"/tmp": {write}{folder}'),
+            (PODS, [*fade, "closed"], 7, "", f'"closed": {write}{closed}'),
+            (PODS, [*fade, "/dev/full"], 7, "", f'"/dev/full": {write}{full}')]:
+        place.same(f"{of} {' '.join(words)}", (status, line.encode(), f"{of}: {sentence}".encode()),
+                   told(place, words, of=of, nobody=nobody))
 
 
 def odd_words(place):

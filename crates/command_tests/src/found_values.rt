@@ -1,12 +1,28 @@
 //! What a run found, made of rows.
 
+use crate::found_plans::{nodes_of, script_of, told_of};
+use pw_graph::{LineOutcome, Plan};
 use pw_lists::{Items, Memory, Text};
 use pw_top::{Content, Found, Store, What, Work};
 use std::alloc::Global;
-use wav_files::Wav;
+use wav_files::{Peak, Wav};
 
 /// A line of the script, the file of its sink, and the samples that it stored.
 pub(crate) type Stored = (u32, &'static str, &'static [i16]);
+
+/// What a command has found.
+#[derive(Clone, Copy, Drop)]
+pub(crate) enum Seen {
+    Nothing,
+    /// Of a run of a script: what its lines with two ends did, in their order, and the peaks of its
+    /// meters.
+    Run(&'static [LineOutcome], &'static [Peak]),
+    /// Of a trace: that it is legal, or its first line that is no event.
+    Legal,
+    NoEvent(u64),
+    /// Of two objects that clash: the key.
+    Clash(Option<u32>),
+}
 
 // Bytes that may be at hand.
 fn text_of(alloc: Global, bytes: Option<&[u8]>) -> Result<Option<Text>, Memory> {
@@ -44,6 +60,48 @@ fn work_of(alloc: Global, text: Text, rows: &[Stored]) -> Result<Work, Memory> {
         stores.push(store)?;
     }
     Ok(Work { stores, text })
+}
+
+// What a run of a script found.
+fn run_of(
+    alloc: Global,
+    script: &[u8],
+    outcomes: &[LineOutcome],
+    peaks: &[Peak],
+) -> Result<What, Memory> {
+    let script = script_of(alloc, script)?;
+    let nodes = nodes_of(alloc, &script)?;
+    let lines = told_of(alloc, &script, outcomes)?;
+    let peaks = Items::from_slice(alloc, peaks)?;
+    let plan = Plan {
+        quantum: 8192,
+        nodes,
+        epochs: Items::new(alloc),
+        lines,
+    };
+    Ok(What::Run {
+        script,
+        plan,
+        peaks,
+    })
+}
+
+/// What a command found; of a run by the bytes of its script, and nothing without these.
+pub(crate) fn what_of(alloc: Global, script: Option<&[u8]>, seen: Seen) -> Result<What, Memory> {
+    match seen {
+        Seen::Nothing => Ok(What::Nothing),
+        Seen::Run(outcomes, peaks) => match script {
+            None => Ok(What::Nothing),
+            Some(script) => run_of(alloc, script, outcomes, peaks),
+        },
+        Seen::Legal => Ok(What::Check {
+            names: Items::new(alloc),
+            reason: None,
+            event: None,
+        }),
+        Seen::NoEvent(number) => Ok(What::NoEvent { number }),
+        Seen::Clash(key) => Ok(What::Clash { key }),
+    }
 }
 
 /// What was found: the bytes of a script, and a text that was put, where these are at hand, and

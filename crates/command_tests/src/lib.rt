@@ -8,6 +8,8 @@ mod automation;
 #[cfg(test)]
 mod filters;
 #[cfg(test)]
+mod found_plans;
+#[cfg(test)]
 mod found_values;
 #[cfg(test)]
 mod long_words;

@@ -1,29 +1,44 @@
 //! The table of notes: each cause of a link that is not made, sinks and meters without a format,
 //! sinks of one file, of a source's file, without frames and with samples at a limit, and what a
-//! check and a filter find.
+//! check and a filter find. The texts that were put say other things, which no note takes over.
 
-use crate::found_values::{Stored, found_of};
+use crate::found_values::{Seen, Stored, found_of, what_of};
 use fault_messages::explain;
+use pw_graph::LineOutcome;
 use pw_lists::{Memory, Text};
-use pw_top::{Status, What};
+use pw_top::Status;
 use row_files::words_of;
 use std::alloc::Global;
+use wav_files::Peak;
 
-/// A command, its script, the text that it has put and what its sinks stored, and what is noted.
+/// A command, its script, what it has found, the text that it has put, what its sinks stored, and
+/// what is noted.
 #[derive(Clone, Copy, Drop)]
 struct Noted {
     command: &'static str,
     script: Option<&'static [u8]>,
+    seen: Seen,
     told: Option<&'static [u8]>,
     stored: &'static [Stored],
     notes: &'static [u8],
 }
 
-/// A run of a script with a link, of which nothing is to be said.
+/// A link that is made.
+const MADE: LineOutcome = LineOutcome::Linked {
+    rate: 48_000,
+    channels: 1,
+    buffers: 2,
+};
+
+/// A link of formats whose channels differ.
+const CHANNELS: LineOutcome = LineOutcome::NoFormat { key: 65_540 };
+
+/// A run of a script with a link, of which nothing is to be said, and a text that says otherwise.
 const RUN: Noted = Noted {
     command: "run t.graph --trace",
     script: Some(b"# link a.out b.in\nsource s s.wav\nsink o o.wav\n\nlink s.out o.in\ncycles 1\n"),
-    told: Some(b"link s.out o.in 48000 1 2\nbegin 0\nend 0\nwrote o 4\n"),
+    seen: Seen::Run(&[MADE], &[]),
+    told: Some(b"nolink s.out o.in twice\nunused o\nunused n\npeak n 0\nline 7\nclash 2\n"),
     stored: &[(3, "o.wav", &[0])],
     notes: b"",
 };
@@ -32,31 +47,95 @@ const RUN: Noted = Noted {
 const LINKS: &'static [Noted] = &[
     RUN,
     Noted {
-        told: Some(b"nolink s.out o.in 65539\nwrote o 4\n"),
+        seen: Seen::Run(&[LineOutcome::NoFormat { key: 65_539 }], &[]),
         notes: b"pipegraph: t.graph:5: \"s.out\" to \"o.in\" is no link: no common rate (key 65539)\n",
         ..RUN
     },
     Noted {
-        told: Some(b"nolink s.out o.in 7\nwrote o 4\n"),
+        seen: Seen::Run(&[LineOutcome::NoFormat { key: 7 }], &[]),
         notes: b"pipegraph: t.graph:5: \"s.out\" to \"o.in\" is no link: no common value (key 7)\n",
         ..RUN
     },
     Noted {
-        told: Some(b"nolink s.out o.in buffers\nwrote o 4\n"),
+        seen: Seen::Run(&[LineOutcome::NoBuffers], &[]),
         notes: b"pipegraph: t.graph:5: \"s.out\" to \"o.in\" is no link: \
             no number of buffers suits both ports\n",
         ..RUN
     },
     Noted {
-        script: Some(b"link a.out b.in\nunlink a.out b.in\r\n  link b.out a.in\nlink b.out b.in"),
-        told: Some(
-            b"link a.out b.in 8 1 2\nnounlink a.out b.in\nnolink b.out a.in loop\n\
-            nolink b.out b.in loop\n",
+        script: Some(
+            b"gain a 1\ngain b 1\nlink a.out b.in\nunlink a.out b.in\r\n  link b.out a.in\n\
+            link b.out b.in",
         ),
-        notes: b"pipegraph: t.graph:3: \"b.out\" to \"a.in\" is no link: \
+        seen: Seen::Run(
+            &[
+                MADE,
+                LineOutcome::NotThere,
+                LineOutcome::Looped,
+                LineOutcome::Looped,
+            ],
+            &[],
+        ),
+        notes: b"pipegraph: t.graph:5: \"b.out\" to \"a.in\" is no link: \
             it would close a loop, which only a link of an async node may\n\
-            pipegraph: t.graph:4: \"b.out\" to \"b.in\" is no link: \
+            pipegraph: t.graph:6: \"b.out\" to \"b.in\" is no link: \
             a node is not linked to itself\n",
+        ..RUN
+    },
+    // The second of three with the same ends, and lines that take the link away between.
+    Noted {
+        script: Some(
+            b"source s s.wav\nmeter m\nlink s.out m.in\nlink s.out m.in\nunlink s.out m.in\n\
+            unlink s.out m.in\nlink s.out m.in\ncycles 1\n",
+        ),
+        seen: Seen::Run(
+            &[
+                MADE,
+                LineOutcome::Twice,
+                LineOutcome::Gone,
+                LineOutcome::NotThere,
+                MADE,
+            ],
+            &[Peak { node: 1, value: 5 }],
+        ),
+        notes: b"pipegraph: t.graph:4: \"s.out\" to \"m.in\" is no link: \
+            it is there already\n",
+        ..RUN
+    },
+    Noted {
+        script: Some(
+            b"source s s.wav\nmeter m\nlink s.out m.in\n\nunlink s.out m.in\nlink s.out m.in\n",
+        ),
+        seen: Seen::Run(
+            &[CHANNELS, LineOutcome::NotThere, MADE],
+            &[Peak { node: 1, value: 5 }],
+        ),
+        notes: b"pipegraph: t.graph:3: \"s.out\" to \"m.in\" is no link: \
+            no common channels (key 65540); map NAME 1 0,0 makes two channels of one\n",
+        ..RUN
+    },
+    // Ports of every place, and a command of two parts.
+    Noted {
+        command: "groups t.graph",
+        script: Some(
+            b"split t\nmix2 m 1 1\nmap n 1 0\nlink t.left m.a\nlink t.right m.b\n\
+            link m.out n.in\nlink n.out t.in\n",
+        ),
+        seen: Seen::Run(
+            &[
+                LineOutcome::NoBuffers,
+                LineOutcome::NoFormat { key: 1 },
+                CHANNELS,
+                MADE,
+            ],
+            &[],
+        ),
+        notes: b"pipegraph: t.graph:4: \"t.left\" to \"m.a\" is no link: \
+            no number of buffers suits both ports\n\
+            pipegraph: t.graph:5: \"t.right\" to \"m.b\" is no link: \
+            no common media type (key 1)\n\
+            pipegraph: t.graph:6: \"m.out\" to \"n.in\" is no link: \
+            no common channels (key 65540); map NAME 1 0,0 makes two channels of one\n",
         ..RUN
     },
 ];
@@ -65,7 +144,7 @@ const LINKS: &'static [Noted] = &[
 const SINKS: &'static [Noted] = &[
     Noted {
         script: Some(b"sink o o.wav\nmeter m\nsink p o.wav\nmeter n\n"),
-        told: Some(b"unused o\nunused m\nwrote p 4\npeak n 3\n"),
+        seen: Seen::Run(&[], &[Peak { node: 3, value: 3 }]),
         stored: &[(3, "o.wav", &[0])],
         notes: b"pipegraph: t.graph:1: \"o\" had no format at the end, \
             so it does not write \"o.wav\", which another sink writes\n\
@@ -74,7 +153,7 @@ const SINKS: &'static [Noted] = &[
     },
     Noted {
         script: Some(b"sink o o.wav\nsink p o.wav\nsink q q.wav\nsink r o.wav\nsink s s.wav\n"),
-        told: Some(b"wrote o 4\nwrote p 4\nwrote q 4\nunused r\nunused s\n"),
+        seen: Seen::Run(&[], &[]),
         stored: &[(1, "o.wav", &[0]), (2, "o.wav", &[0]), (3, "q.wav", &[0])],
         notes: b"pipegraph: t.graph:1: \"o.wav\" is written by a later sink too; \
             a regular file keeps what is written last\n\
@@ -85,7 +164,7 @@ const SINKS: &'static [Noted] = &[
     },
     Noted {
         script: Some(b"sink o v.wav\nsource v v.wav\nsink p v.wav\nsink q v.wav\ncycles 2\n"),
-        told: Some(b"wrote o 4\nwrote p 8\nunused q\n"),
+        seen: Seen::Run(&[], &[]),
         stored: &[(1, "v.wav", &[0]), (3, "v.wav", &[0])],
         notes: b"pipegraph: t.graph:1: \"v.wav\" is written by a later sink too; \
             a regular file keeps what is written last\n\
@@ -97,13 +176,43 @@ const SINKS: &'static [Noted] = &[
             so it does not write \"v.wav\", which another sink writes\n",
         ..RUN
     },
+    // Words with backslashes and quotes; a file that is called as a sink's name is.
+    Noted {
+        script: Some(
+            b"sink o a\\b\"c.wav\nsource s a\\b\"c.wav\nsink p o\nsink q \"\\\"\n\
+            cycles 2\n",
+        ),
+        seen: Seen::Run(&[], &[]),
+        stored: &[(1, "a\\b\"c.wav", &[0]), (3, "o", &[0])],
+        notes: b"pipegraph: t.graph:1: \"a\\\\b\"c.wav\" is a source's file too: \
+            it was read first, and written after that\n\
+            pipegraph: t.graph:4: \"q\" had no format at the end, \
+            so it does not write \"\"\\\\\"\"\n",
+        ..RUN
+    },
+    // Of two meters the one without a format.
+    Noted {
+        script: Some(b"meter n\nmeter m\ncycles 1\n"),
+        seen: Seen::Run(&[], &[Peak { node: 1, value: 0 }]),
+        notes: b"pipegraph: t.graph:1: \"n\" had no format at the end, so it has no peak\n",
+        ..RUN
+    },
+    Noted {
+        command: "groups t.graph",
+        script: Some(b"meter n\nmeter m\nsquare q 48000 2 2 5\nlink q.out m.in\ncycles 1\n"),
+        seen: Seen::Run(&[CHANNELS], &[Peak { node: 0, value: 0 }]),
+        notes: b"pipegraph: t.graph:4: \"q.out\" to \"m.in\" is no link: \
+            no common channels (key 65540); map NAME 1 0,0 makes two channels of one\n\
+            pipegraph: t.graph:2: \"m\" had no format at the end, so it has no peak\n",
+        ..RUN
+    },
 ];
 
 /// Sinks and meters without frames.
 const EMPTY: &'static [Noted] = &[
     Noted {
         script: Some(b"# cycles 1\nsink o n1.wav\nmeter m\nmeter cycles\nsource v n1.wav\n"),
-        told: Some(b"wrote o 0\npeak m 0\nunused cycles\n"),
+        seen: Seen::Run(&[], &[Peak { node: 1, value: 0 }]),
         stored: &[(2, "n1.wav", &[])],
         notes: b"pipegraph: t.graph:2: \"n1.wav\" is a source's file too: \
             it was read first, and written after that\n\
@@ -116,7 +225,7 @@ const EMPTY: &'static [Noted] = &[
     },
     Noted {
         script: Some(b"sink o o.wav\nmeter m\n\tdrain\r\n"),
-        told: Some(b"wrote o 0\npeak m 0\n"),
+        seen: Seen::Run(&[], &[Peak { node: 1, value: 0 }]),
         stored: &[(1, "o.wav", &[])],
         notes: b"pipegraph: t.graph:1: \"o\" has no frames, so what it writes to \"o.wav\" \
             is an empty WAV file: it was active in no cycle since it got its format; \
@@ -126,7 +235,7 @@ const EMPTY: &'static [Noted] = &[
     },
     Noted {
         script: Some(b"sink o o.wav\nmeter m\nsink p p.wav\ndrain\ncycles 3\n"),
-        told: Some(b"wrote o 0\npeak m 0\nwrote p 10\n"),
+        seen: Seen::Run(&[], &[Peak { node: 1, value: 0 }]),
         stored: &[(1, "o.wav", &[]), (3, "p.wav", &[0])],
         notes: b"pipegraph: t.graph:1: \"o\" has no frames, so what it writes to \"o.wav\" \
             is an empty WAV file: it was active in no cycle since it got its format; \
@@ -136,7 +245,7 @@ const EMPTY: &'static [Noted] = &[
     Noted {
         command: "groups t.graph",
         script: Some(b"sink o o.wav\nsink p p.wav\ncycles 3\n"),
-        told: Some(b"wrote o 0\nwrote p 0\n"),
+        seen: Seen::Run(&[], &[]),
         stored: &[(1, "o.wav", &[]), (2, "p.wav", &[])],
         notes: b"pipegraph: t.graph:1: \"o\" has no frames, so what it writes to \"o.wav\" \
             is an empty WAV file: it was active in no cycle since it got its format\n\
@@ -147,11 +256,25 @@ const EMPTY: &'static [Noted] = &[
     Noted {
         command: "groups t.graph",
         script: Some(b"sink o o.wav\ndrain\n"),
-        told: Some(b"wrote o 0\n"),
+        seen: Seen::Run(&[], &[]),
         stored: &[(1, "o.wav", &[])],
         notes: b"pipegraph: t.graph:1: \"o\" has no frames, so what it writes to \"o.wav\" \
             is an empty WAV file: it was active in no cycle since it got its format; \
             drain goes on only while an active source has frames left\n",
+        ..RUN
+    },
+    // Nodes and files that are called as commands are.
+    Noted {
+        script: Some(b"sink cycles drain\nmeter drain\nmeter m\n"),
+        seen: Seen::Run(
+            &[],
+            &[Peak { node: 1, value: 0 }, Peak { node: 2, value: 5 }],
+        ),
+        stored: &[(1, "drain", &[])],
+        notes: b"pipegraph: t.graph:1: \"cycles\" has no frames, so what it writes to \"drain\" \
+            is an empty WAV file: the script has no cycles line and no drain line\n\
+            pipegraph: t.graph:2: \"drain\" got no frames, so its peak is 0: \
+            the script has no cycles line and no drain line\n",
         ..RUN
     },
 ];
@@ -161,13 +284,14 @@ const EMPTY: &'static [Noted] = &[
 const CLIPPED: &'static [Noted] = &[
     Noted {
         script: Some(b"sink o o.wav\n"),
+        seen: Seen::Run(&[], &[]),
         stored: &[(1, "o.wav", &[32767, -32768, 32766, -32767, 0, -1, 32767])],
         notes: b"pipegraph: t.graph:1: \"o\" has 3 samples at the limit of 16 bits\n",
         ..RUN
     },
     Noted {
         script: Some(b"sink o o.wav\nsink p p.wav\nsink q q.wav\n"),
-        told: Some(b"wrote o 1\nwrote p 1\nwrote q 1\n"),
+        seen: Seen::Run(&[], &[]),
         stored: &[
             (1, "o.wav", &[32767]),
             (2, "p.wav", &[32766, -32767]),
@@ -179,8 +303,14 @@ const CLIPPED: &'static [Noted] = &[
     },
     Noted {
         command: "groups t.graph",
-        script: Some(b"sink o o.wav\nsource o o.wav\nmeter m\nsink p o.wav\n"),
-        told: Some(b"wrote o 2\nunused p\npeak m 32768\n"),
+        script: Some(b"sink o o.wav\nsource s o.wav\nmeter m\nsink p o.wav\n"),
+        seen: Seen::Run(
+            &[],
+            &[Peak {
+                node: 2,
+                value: 32_768,
+            }],
+        ),
         stored: &[
             (2, "x.wav", &[32767]),
             (1, "o.wav", &[32767, 32767]),
@@ -196,35 +326,39 @@ const CLIPPED: &'static [Noted] = &[
     Noted {
         command: "check t.graph t.txt",
         script: Some(b"sink o o.wav\n"),
-        told: Some(b"legal\n"),
+        seen: Seen::Legal,
         stored: &[(1, "o.wav", &[32767])],
         ..RUN
     },
 ];
 
-/// What a check and a filter find, other commands, and texts that are not at hand.
+/// What a check and a filter find, other commands, and runs of which nothing is at hand.
 const OTHERS: &'static [Noted] = &[
     Noted {
         command: "check t.graph t.txt",
+        seen: Seen::Legal,
         told: Some(b"illegal 3\n"),
         ..RUN
     },
     Noted {
         command: "check t.graph t.txt",
-        told: Some(b"line 12\n"),
+        seen: Seen::NoEvent(12),
+        told: Some(b"line 13\n"),
         notes: b"pipegraph: t.txt:12: no event line; \
             grep -E '^(begin|start|finish|tick|end) ' takes those of a run's text\n",
         ..RUN
     },
     Noted {
         command: "check t.graph t.txt",
-        told: Some(b"legal\n"),
+        seen: Seen::Legal,
+        told: Some(b"line 12\n"),
         ..RUN
     },
     Noted {
         command: "filter a.pod b.pod c.pod",
         script: None,
-        told: Some(b"clash 65540\n"),
+        seen: Seen::Clash(Some(65_540)),
+        told: Some(b"clash type\n"),
         notes: b"pipegraph: a.pod and b.pod: no common value under key 65540 \
             (a format's channels)\n",
         ..RUN
@@ -232,19 +366,37 @@ const OTHERS: &'static [Noted] = &[
     Noted {
         command: "filter a.pod b.pod c.pod",
         script: None,
-        told: Some(b"clash type\n"),
+        seen: Seen::Clash(Some(4_294_967_295)),
+        notes: b"pipegraph: a.pod and b.pod: no common value under key 4294967295\n",
+        ..RUN
+    },
+    Noted {
+        command: "filter a.pod b.pod c.pod",
+        script: None,
+        seen: Seen::Clash(None),
+        told: Some(b"clash 65540\n"),
         notes: b"pipegraph: a.pod and b.pod: objects of different types\n",
         ..RUN
     },
     Noted {
-        command: "dump a.pod",
-        told: Some(b"illegal 3\n"),
+        command: "filter a.pod b.pod c.pod",
+        script: None,
+        seen: Seen::Nothing,
+        told: Some(b"clash type\n"),
         ..RUN
     },
-    Noted { told: None, ..RUN },
     Noted {
-        script: None,
-        told: Some(b"nolink s.out o.in twice\n"),
+        command: "dump a.pod",
+        seen: Seen::Nothing,
+        ..RUN
+    },
+    Noted {
+        seen: Seen::Run(&[LineOutcome::Twice], &[]),
+        told: None,
+        ..RUN
+    },
+    Noted {
+        seen: Seen::Nothing,
         ..RUN
     },
 ];
@@ -252,7 +404,8 @@ const OTHERS: &'static [Noted] = &[
 // What is said of the command of a row.
 fn said_of(alloc: Global, row: Noted) -> Result<Text, Memory> {
     let words = words_of(alloc, row.command)?;
-    let found = found_of(alloc, row.script, row.told, row.stored, What::Nothing)?;
+    let what = what_of(alloc, row.script, row.seen)?;
+    let found = found_of(alloc, row.script, row.told, row.stored, what)?;
     explain(alloc, &Status::Ok, &found, None, words.as_slice())
 }
 

@@ -26,6 +26,27 @@ const NOTES: &'static [Asked] = &[
         ..RUN
     },
     Asked {
+        script: b"quantum 2\nsquare q 48000 1 2 5\nmeter m\nlink q.out m.in\nlink q.out m.in\n\
+            unlink q.out m.in\nunlink q.out m.in\nlink q.out m.in\ncycles 1\n",
+        code: 0,
+        out: b"link q.out m.in 48000 1 2\nnolink q.out m.in twice\nunlink q.out m.in\n\
+            nounlink q.out m.in\nlink q.out m.in 48000 1 2\npeak m 5\n",
+        said: b"s.graph:5: \"q.out\" to \"m.in\" is no link: it is there already",
+        ..RUN
+    },
+    Asked {
+        line: "groups s.graph",
+        script: b"quantum 2\nsquare a 48000 1 2 5\nsquare c 48000 2 2 5\nmeter m\nlink a.out m.in\n\
+            meter n\nlink c.out m.in\nlink c.out n.in\nmeter z\ncycles 1\n",
+        code: 0,
+        out: b"link a.out m.in 48000 1 2\nnolink c.out m.in 65540\nlink c.out n.in 48000 2 2\n\
+            peak m 5\npeak n 5\nunused z\n",
+        said: b"s.graph:7: \"c.out\" to \"m.in\" is no link: no common channels (key 65540); \
+            map NAME 1 0,0 makes two channels of one\n\
+            pipegraph: s.graph:9: \"z\" had no format at the end, so it has no peak",
+        ..RUN
+    },
+    Asked {
         line: "filter a.pod b.pod o.pod",
         files: &[("a.pod", PROPS), ("b.pod", OTHERS)],
         code: 0,
@@ -171,6 +192,13 @@ const SINKS: &'static [Asked] = &[
         out: b"link s.out p.in 48000 1 2\nunused o\nwrote p 4\n",
         said: b"s.graph:3: \"o\" had no format at the end, so it does not write \"o.wav\", \
             which another sink writes",
+        ..RUN
+    },
+    Asked {
+        script: b"quantum 2\nmeter n\nsquare q 48000 1 2 5\nmeter m\nlink q.out m.in\ncycles 1\n",
+        code: 0,
+        out: b"link q.out m.in 48000 1 2\nunused n\npeak m 5\n",
+        said: b"s.graph:2: \"n\" had no format at the end, so it has no peak",
         ..RUN
     },
 ];

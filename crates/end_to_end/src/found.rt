@@ -1,9 +1,10 @@
 //! What a call finds beside its report: the script that it read, and what it stored and put.
 
+use crate::finding::found_in;
 use pw_lists::{Items, Memory};
-use pw_outside::{MemSink, Never, Open};
-use pw_top::{Found, Ran, Work, run_words_with};
-use row_files::{S_WAV, SURE, add, files_of, words_of};
+use pw_outside::MemSink;
+use pw_top::{Found, Work};
+use row_files::{S_WAV, SURE, add, files_of};
 use std::sync::Wait;
 use std::test::Fail;
 use std::thread::Threads;
@@ -22,24 +23,9 @@ fn found_by<R: Threads + Wait + Sync + AllocGlobal>(
     failing: u64,
 ) -> Result<(Found, MemSink), Memory> {
     let alloc = rt.alloc();
-    let words = words_of(alloc, line)?;
     let mut files = files_of(alloc, SCRIPT, [S_WAV].as_slice(), SURE)?;
     add(alloc, &mut files, "bad.graph", BAD)?;
-    let mut out = MemSink::new(alloc)?;
-    out.fail_put(alloc, failing, 0)?;
-    let Ran {
-        report: _report,
-        found,
-    } = run_words_with(
-        rt,
-        alloc,
-        words.as_slice(),
-        &mut files,
-        &mut out,
-        &Open::new(),
-        &mut Never::new(),
-    );
-    Ok((found, out))
+    found_in(rt, line, &mut files, failing)
 }
 
 // Whether a line finds these bytes of a script.

@@ -3,9 +3,13 @@
 #![tactic(auto)]
 
 #[cfg(test)]
+mod clashes;
+#[cfg(test)]
 mod events;
 #[cfg(test)]
 mod faults;
+#[cfg(test)]
+mod finding;
 #[cfg(test)]
 mod found;
 #[cfg(test)]
@@ -22,6 +26,8 @@ mod long_files;
 mod long_runs;
 #[cfg(test)]
 mod offers;
+#[cfg(test)]
+mod plans;
 #[cfg(test)]
 mod reasons;
 #[cfg(test)]

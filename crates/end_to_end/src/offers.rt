@@ -22,13 +22,13 @@ const POSITION: u32 = 65_541;
 const MANDATORY: u32 = 8;
 
 /// A WAV file of the sample 7, mono at 44100.
-const AT_44100: Held<'static> = Held::Bytes(
+pub const AT_44100: Held<'static> = Held::Bytes(
     b"RIFF\x26\0\0\0WAVEfmt \x10\0\0\0\x01\0\x01\0\x44\xac\0\0\x88\x58\x01\0\x02\0\x10\0\
     data\x02\0\0\0\x07\0",
 );
 
 /// A format of the rate 48000.
-const AT_48000: Held<'static> = Held::Words(&[32, 15, FORMAT, 3, RATE, 0, 4, 4, 48_000, 0]);
+pub const AT_48000: Held<'static> = Held::Words(&[32, 15, FORMAT, 3, RATE, 0, 4, 4, 48_000, 0]);
 
 /// Offers that leave a link no rate, with a driver and without.
 const LINKS: &'static [Row<'static>] = &[

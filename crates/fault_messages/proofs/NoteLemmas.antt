@@ -1,42 +1,40 @@
--- Laws of `specs/LinkNotes.antt`, `specs/SinkNotes.antt` and `specs/Makers.antt`: lines one by one.
-use Rattle.std.proofs.Common.{◌≡◌, ℕ, suc, ◌+◌, ◌-◌, ◌<◌, Bool, false, cond, Some, List, [], ◌∷◌, ◌++◌, take, find, sym, ap, ◌∙◌, arith}
-use Rattle.std.proofs.lemmas.List.{append-nil, append_assoc}
-use Rattle.command_frame.specs.declared.work.Work.{Work}
-use Rattle.fault_messages.specs.LinkNotes.{link_part, told_behind, link_notes}
-use Rattle.fault_messages.specs.SinkNotes.{sink_part, sink_notes}
+-- Laws of `specs/LinkNotes.antt` and `specs/Makers.antt`: lines one by one.
+use Rattle.std.proofs.Common.{◌≡◌, ℕ, suc, ◌+◌, ◌-◌, ◌<◌, Bool, true, false, cond, Some, List, [], ◌∷◌, ◌++◌, take, find, filter, flat_map, zip, refl, sym, ap, ◌∙◌, arith}
+use Rattle.std.proofs.lemmas.List.{append_assoc}
+use Rattle.pw_graph.specs.declared.plan.LinkLine.{LinkLine}
+use Rattle.pw_graph.specs.declared.plan.PlanNode.{PlanNode}
+use Rattle.graph_script.specs.declared.script.Line.{Line}
+use Rattle.fault_messages.specs.LinkNotes.{link_note, link_notes}
+use Rattle.fault_messages.specs.ScriptLines.{has_ends}
+use Rattle.fault_messages.specs.working.LinkSteps.{first_note, link_part, links_after, links_behind}
 
--- after a text are the notes of the first line, then those of the others
-pub more_links : (words : List (List ℕ)) (n : ℕ) (line told text : List ℕ) (all lines : List (List ℕ))
-    → all ≡ line ∷ lines → text ++ link_notes words n all told
-    ≡ text ++ link_part words n line told ++ link_notes words (n + 1) lines (told_behind line told)
-unfolding link_notes
-more_links words n line told text all lines e =
-    ap (λ ls. text ++ link_notes words n ls told) e
-    ∙ sym (append_assoc text (link_part words n line told)
-    (link_notes words (n + 1) lines (told_behind line told)))
+-- the notes on lines with two ends, each with what it did
+abbrev pair_notes : (words : List (List ℕ)) (nodes : List PlanNode) → List Line → List LinkLine → List ℕ
+pair_notes words nodes lines links = flat_map (λ p. link_note words nodes p.0.line p.1) (zip lines links)
 
-pub last_links : (words : List (List ℕ)) (n : ℕ) (line told text : List ℕ) (all : List (List ℕ))
-    → all ≡ line ∷ [] → text ++ link_notes words n all told ≡ text ++ link_part words n line told
-unfolding link_notes
-last_links words n line told text all e =
-    more_links words n line told text all [] e ∙ append-nil (text ++ link_part words n line told)
+-- there is none where nothing is left to pair with
+none_left : (words : List (List ℕ)) (nodes : List PlanNode) (lines : List Line) → pair_notes words nodes lines [] ≡ []
+none_left words nodes [] = refl
+none_left words nodes (line ∷ lines) = refl
 
-pub more_sinks : (words : List (List ℕ)) (work : Work) (script : List ℕ) (n : ℕ) (line text : List ℕ)
-    (all lines : List (List ℕ)) → all ≡ line ∷ lines → text ++ sink_notes words work script n all
-    ≡ text ++ sink_part words work script n line ++ sink_notes words work script (n + 1) lines
-unfolding sink_notes
-more_sinks words work script n line text all lines e =
-    ap (λ ls. text ++ sink_notes words work script n ls) e
-    ∙ sym (append_assoc text (sink_part words work script n line)
-    (sink_notes words work script (n + 1) lines))
+-- those of the first line, then those of the others
+first_link : (words : List (List ℕ)) (nodes : List PlanNode) (line : Line) (lines : List Line) (links : List LinkLine)
+    → link_notes words nodes (line ∷ lines) links
+    ≡ link_part words nodes line links ++ link_notes words nodes lines (links_behind line links)
+first_link words nodes line lines links = by (has_ends line.command) (filter (λ l. has_ends l.command) lines) links where
+  by : (b : Bool) (kept : List Line) (ls : List LinkLine) → pair_notes words nodes (cond b (line ∷ kept) kept) ls
+      ≡ cond b (first_note words nodes line.line ls) [] ++ pair_notes words nodes kept (cond b (links_after ls) ls)
+  by true kept [] = sym (none_left words nodes kept)
+  by true kept (link ∷ ls) = refl
+  by false kept ls = refl
 
-pub last_sinks : (words : List (List ℕ)) (work : Work) (script : List ℕ) (n : ℕ) (line text : List ℕ)
-    (all : List (List ℕ)) → all ≡ line ∷ [] → text ++ sink_notes words work script n all
-    ≡ text ++ sink_part words work script n line
-unfolding sink_notes
-last_sinks words work script n line text all e =
-    more_sinks words work script n line text all [] e
-    ∙ append-nil (text ++ sink_part words work script n line)
+-- the same after a text
+pub more_links : (words : List (List ℕ)) (nodes : List PlanNode) (text : List ℕ) (line : Line) (lines : List Line) (links : List LinkLine)
+    → text ++ link_notes words nodes (line ∷ lines) links
+    ≡ text ++ link_part words nodes line links ++ link_notes words nodes lines (links_behind line links)
+more_links words nodes text line lines links =
+    ap (λ notes. text ++ notes) (first_link words nodes line lines links)
+    ∙ sym (append_assoc text (link_part words nodes line links) (link_notes words nodes lines (links_behind line links)))
 
 -- a line that does not pass a test is passed over
 pub skip_line : (p : List ℕ → Bool) (n k : ℕ) (line : List ℕ) (all lines : List (List ℕ)) → k < n

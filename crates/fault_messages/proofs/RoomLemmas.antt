@@ -1,6 +1,6 @@
 -- Laws of `specs/CycleRoom.antt`: lines one by one.
 use Rattle.std.proofs.Common.{◌≡◌, ℕ, zero, suc, ◌+◌, ◌-◌, ◌<◌, ◌≤◌, Bool, true, false, cond, List, [], ◌∷◌, take, filter, length, refl, ap, ◌∙◌, arith}
-use Rattle.fault_messages.specs.NodeNames.{is_maker}
+use Rattle.fault_messages.specs.Makers.{is_maker}
 use Rattle.fault_messages.specs.CycleRoom.{nodes_made, counted}
 
 -- a first line counts where it makes a node

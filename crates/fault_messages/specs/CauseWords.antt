@@ -1,9 +1,10 @@
 -- What is wrong with an event of a trace, or what is missing where none comes, in parts. Source:
 -- PipeWire's documentation, "Graph Scheduling"; the sentences are this project's own.
-use Rattle.std.specs.Prelude.{ℕ, List, ◌++◌, codes, decimal, Option}
+use Rattle.std.specs.Prelude.{ℕ, List, ◌++◌, codes, decimal}
 use Rattle.pw_graph.specs.declared.event.Event.{Event}
 use Rattle.pw_graph.specs.declared.event.Event.TheVariants as E
 use Rattle.fault_messages.specs.NodeNames.{node_text}
+use Rattle.fault_messages.specs.Places.{Words}
 
 -- the cycle of an event, and the node that it starts or finishes
 abbrev pub cycle_of : Event → ℕ
@@ -13,10 +14,10 @@ cycle_of (E.Finish k n) = k
 cycle_of (E.Tick k late) = k
 cycle_of (E.End k) = k
 
-abbrev pub its_node : Option (List ℕ) → Event → List ℕ
-its_node script (E.Start k n) = node_text script n
-its_node script (E.Finish k n) = node_text script n
-its_node script event = codes "its node"
+abbrev pub its_node : Words → Event → List ℕ
+its_node names (E.Start k n) = node_text names n
+its_node names (E.Finish k n) = node_text names n
+its_node names event = codes "its node"
 
 -- of a cycle: it has not begun, has not ended, or cannot end
 unfoldable pub not_begun : ℕ → List ℕ
@@ -28,9 +29,9 @@ only_begin k = codes ", so only begin " ++ (decimal k ++ codes " can come here")
 unfoldable pub not_ended : ℕ → List ℕ
 not_ended k = codes "cycle " ++ (decimal k ++ codes " has begun and not ended")
 
-unfoldable pub not_finished : Option (List ℕ) → ℕ → ℕ → List ℕ
-not_finished script k n = codes "cycle "
-    ++ (decimal k ++ (codes " cannot end before " ++ (node_text script n ++ codes " has finished")))
+unfoldable pub not_finished : Words → ℕ → ℕ → List ℕ
+not_finished names k n = codes "cycle "
+    ++ (decimal k ++ (codes " cannot end before " ++ (node_text names n ++ codes " has finished")))
 
 -- of the node of an event: what it is, or for which it waits, in a cycle; of a late node
 unfoldable pub node_said : List ℕ → List ℕ → ℕ → List ℕ → List ℕ

@@ -1,8 +1,8 @@
 -- Sinks whose samples reach the limits of 16 bits, in words. Source: the sentence is this project's
 -- own.
 use Rattle.std.specs.Prelude.{ℕ, ◌==◌, ℤ, List, [], ◌++◌, codes, decimal, if◌then◌else◌}
+use Rattle.fault_messages.specs.NoteHeads.{note_at}
 use Rattle.fault_messages.specs.Places.{Words, quoted}
-use Rattle.fault_messages.specs.ReportedLines.{note_at}
 use Rattle.fault_messages.specs.SinkWaves.{at_limit}
 
 -- so many samples of a sink

@@ -5,7 +5,7 @@ use Rattle.std.specs.Prelude.{ℕ, ◌+◌, ◌*◌, ◌/◌, ◌&&◌, not, Boo
 use Rattle.pw_lists.specs.Limits.{events_limit}
 use Rattle.pw_lists.specs.declared.limit.Which.{Which}
 use Rattle.pw_lists.specs.declared.limit.Which.TheVariants as W
-use Rattle.fault_messages.specs.NodeNames.{is_maker}
+use Rattle.fault_messages.specs.Makers.{is_maker}
 use Rattle.fault_messages.specs.Places.{Words, word}
 
 -- of the nodes that these lines make all may be active, and the built-in driver

@@ -2,15 +2,12 @@
 -- that was accepted. Both are made of what the run found. Source: this project's own.
 use Rattle.std.specs.Prelude.{ℕ, List, [], ◌++◌, Option, Some, None, if◌then◌else◌}
 use Rattle.run_results.specs.declared.found.Found.{Found}
-use Rattle.run_results.specs.declared.found.What.{What}
-use Rattle.run_results.specs.declared.found.What.TheVariants.{Nothing, Check}
 use Rattle.run_results.specs.declared.status.Status.{Status}
 use Rattle.run_results.specs.declared.status.Status.TheVariants as S
 use Rattle.system_files.specs.declared.why.FileWhy.{FileWhy}
 use Rattle.fault_messages.specs.Places.{Words, is_line, line_at}
 use Rattle.fault_messages.specs.Message.{message_of}
 use Rattle.fault_messages.specs.Notes.{notes}
-use Rattle.fault_messages.specs.ReasonNotes.{reason_note}
 
 -- the place of a status
 abbrev pub place_of : Status → Option ℕ
@@ -37,18 +34,13 @@ abbrev pub bytes_in : Option (List ℕ) → List ℕ
 bytes_in None = []
 bytes_in (Some bytes) = bytes
 
--- the notes: by the reason of a check, where one was found, and by the work that was done else
-abbrev pub noted_by : What → Found → Words → List ℕ
-noted_by Nothing found words = notes words found.script found.work
-noted_by (Check None event) found words = notes words found.script found.work
-noted_by (Check (Some r) event) found words = reason_note words found.script event r
-
+-- the notes, where all was done
 abbrev pub noted : Status → Found → Words → List ℕ
-noted S.Ok found words = noted_by found.what found words
+noted S.Ok found words = notes words found.what found.work
 noted _ found words = []
 
--- THE MESSAGE of a status, by what the run found, by why the system refused a file, where it did and
--- that is known, and by the words of the command line
+-- THE MESSAGE of a status, by what the run found, by why the system refused a file, where it did
+-- and that is known, and by the words of the command line
 unfoldable pub explained : Status → Found → Option FileWhy → Words → List ℕ
 explained status found why words =
     message_of status why words (line_named (place_of status) words found.script)

@@ -1,6 +1,5 @@
 -- Names of the keys of formats. Source: spa/param/format.h; the words are this project's.
-use Rattle.std.specs.Prelude.{ℕ, ◌==◌, List, [], ◌++◌, codes, Option, Some, None, if◌then◌else◌}
-use Rattle.graph_script.specs.Arguments.{number_of}
+use Rattle.std.specs.Prelude.{ℕ, ◌==◌, List, [], ◌++◌, codes, decimal, Option, Some, None, if◌then◌else◌}
 
 unfoldable pub key_name : ℕ → Option (List ℕ)
 key_name key =
@@ -20,22 +19,15 @@ name_part (Some name) = codes " (a format's " ++ (name ++ codes ")")
 abbrev pub key_part : ℕ → List ℕ
 key_part key = name_part (key_name key)
 
--- the name of a key that is read off a text
-abbrev pub name_at : Option ℕ → Option (List ℕ)
-name_at None = None
-name_at (Some key) = key_name key
-
+-- what the values under a key are called
 abbrev pub common_name : Option (List ℕ) → List ℕ
 common_name None = codes "value"
 common_name (Some name) = name
 
-abbrev pub key_word_name : List ℕ → List ℕ
-key_word_name w = common_name (name_at (number_of 0 4294967295 w))
-
 -- a key under which two formats have nothing in common, and one of any two objects
-abbrev pub clash_said : List ℕ → List ℕ
-clash_said w = codes "no common " ++ (key_word_name w ++ (codes " (key " ++ (w ++ codes ")")))
+unfoldable pub clash_said : ℕ → List ℕ
+clash_said key = codes "no common "
+    ++ (common_name (key_name key) ++ (codes " (key " ++ (decimal key ++ codes ")")))
 
-unfoldable pub key_clash : List ℕ → List ℕ
-key_clash w =
-    codes "no common value under key " ++ (w ++ name_part (name_at (number_of 0 4294967295 w)))
+unfoldable pub key_clash : ℕ → List ℕ
+key_clash key = codes "no common value under key " ++ (decimal key ++ key_part key)

@@ -1,59 +1,57 @@
--- Why links were not made, in words, by the lines of a run's text. Source: the causes are those of
--- PipeWire's documentation, "Objects Design", Link; the sentences are this project's own.
-use Rattle.std.specs.Prelude.{ℕ, ◌+◌, List, [], ◌∷◌, ◌++◌, codes, bytes_eq, if◌then◌else◌}
-use Rattle.graph_script.specs.Lexical.{words_of}
+-- Why links were not made, in words, by what the plan says of each line with two ends. Source: the
+-- causes are those of PipeWire's documentation, "Objects Design", Link; the sentences are this
+-- project's own.
+use Rattle.std.specs.Prelude.{ℕ, ◌==◌, Bool, true, false, List, [], ◌++◌, codes, filter, flat_map, zip, if◌then◌else◌}
+use Rattle.pw_graph.specs.declared.plan.LineOutcome.{LineOutcome}
+use Rattle.pw_graph.specs.declared.plan.LineOutcome.TheVariants as O
+use Rattle.pw_graph.specs.declared.plan.LinkLine.{LinkLine}
+use Rattle.pw_graph.specs.declared.plan.PlanNode.{PlanNode}
+use Rattle.graph_script.specs.declared.script.Line.{Line}
 use Rattle.fault_messages.specs.KeyNames.{clash_said}
-use Rattle.fault_messages.specs.NameRules.{is_pair, end_name}
-use Rattle.fault_messages.specs.Places.{word, quoted}
-use Rattle.fault_messages.specs.ReportedLines.{first_line, behind_line, note_at}
+use Rattle.fault_messages.specs.LinkEnds.{quoted_end}
+use Rattle.fault_messages.specs.NoteHeads.{note_at}
+use Rattle.fault_messages.specs.Places.{Words}
+use Rattle.fault_messages.specs.ScriptLines.{has_ends}
 
 -- of a loop: both ends are of one node, or a way leads back
-abbrev pub loop_said : List (List ℕ) → List ℕ
-loop_said ws =
-    if bytes_eq (end_name (word ws 1)) (end_name (word ws 2))
-    then codes "a node is not linked to itself"
+abbrev pub loop_said : LinkLine → List ℕ
+loop_said link =
+    if link.from.node == link.to.node then codes "a node is not linked to itself"
     else codes "it would close a loop, which only a link of an async node may"
 
 -- of a key: where the channels differ, what makes two of one
-abbrev pub map_part : List ℕ → List ℕ
-map_part w =
-    if bytes_eq w (codes "65540") then codes "; map NAME 1 0,0 makes two channels of one" else []
+abbrev pub map_part : ℕ → List ℕ
+map_part key = if key == 65540 then codes "; map NAME 1 0,0 makes two channels of one" else []
 
-abbrev pub key_said : List ℕ → List ℕ
-key_said w = clash_said w ++ map_part w
+-- whether a link is not made, and the cause; nothing of lines that did what they ask for
+abbrev pub is_refused : LineOutcome → Bool
+is_refused (O.Linked rate channels buffers) = false
+is_refused O.Gone = false
+is_refused O.NotThere = false
+is_refused _ = true
 
--- the cause of a line `nolink FROM TO CAUSE`, which may be a key
-unfoldable pub cause_said : List (List ℕ) → List ℕ
-cause_said ws =
-    if bytes_eq (word ws 3) (codes "loop") then loop_said ws
-    else (if bytes_eq (word ws 3) (codes "twice") then codes "it is there already"
-    else (if bytes_eq (word ws 3) (codes "buffers")
-    then codes "no number of buffers suits both ports"
-    else key_said (word ws 3)))
+abbrev pub cause_said : LinkLine → LineOutcome → List ℕ
+cause_said link (O.NoFormat key) = clash_said key ++ map_part key
+cause_said link O.NoBuffers = codes "no number of buffers suits both ports"
+cause_said link O.Looped = loop_said link
+cause_said link O.Twice = codes "it is there already"
+cause_said link (O.Linked rate channels buffers) = []
+cause_said link O.Gone = []
+cause_said link O.NotThere = []
 
-unfoldable pub nolink_head : List ℕ → List ℕ → List ℕ
-nolink_head from to =
-    quoted from ++ (codes " to " ++ (quoted to ++ codes " is no link: "))
+unfoldable pub ends_head : List PlanNode → LinkLine → List ℕ
+ends_head nodes link = quoted_end nodes link.from
+    ++ (codes " to " ++ (quoted_end nodes link.to ++ codes " is no link: "))
 
-abbrev pub nolink_said : List (List ℕ) → List ℕ
-nolink_said ws = nolink_head (word ws 1) (word ws 2) ++ cause_said ws
+abbrev pub refused_said : List PlanNode → LinkLine → List ℕ
+refused_said nodes link = ends_head nodes link ++ cause_said link link.outcome
 
--- the note on a line of a script by what was put of it
-abbrev pub link_note : List (List ℕ) → ℕ → List ℕ → List ℕ
-link_note words n told =
-    if bytes_eq (word (words_of told) 0) (codes "nolink")
-    then note_at words n (nolink_said (words_of told)) else []
+-- the note on a line of the script, by its number and by what it did
+abbrev pub link_note : Words → List PlanNode → ℕ → LinkLine → List ℕ
+link_note words nodes n link =
+    if is_refused link.outcome then note_at words n (refused_said nodes link) else []
 
--- a `link` or `unlink` line takes the next line of what was put
-abbrev pub link_part : List (List ℕ) → ℕ → List ℕ → List ℕ → List ℕ
-link_part words n line told =
-    if is_pair (words_of line) then link_note words n (first_line told) else []
-
-abbrev pub told_behind : List ℕ → List ℕ → List ℕ
-told_behind line told = if is_pair (words_of line) then behind_line told else told
-
--- THE NOTES ON LINKS of the lines from this number on
-unfoldable pub link_notes : List (List ℕ) → ℕ → List (List ℕ) → List ℕ → List ℕ
-link_notes words n [] told = []
-link_notes words n (line ∷ lines) told =
-    link_part words n line told ++ link_notes words (n + 1) lines (told_behind line told)
+-- THE NOTES ON LINKS: the lines with two ends and what they did have one order
+abbrev pub link_notes : Words → List PlanNode → List Line → List LinkLine → List ℕ
+link_notes words nodes lines links = flat_map (λ p. link_note words nodes p.0.line p.1)
+    (zip (filter (λ line. has_ends line.command) lines) links)

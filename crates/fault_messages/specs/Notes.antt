@@ -1,58 +1,54 @@
--- Notes on a command that was accepted, by its words, the script that it read and the work that it
--- did. Source: this project's own.
-use Rattle.std.specs.Prelude.{ℕ, ◌||◌, List, [], ◌++◌, codes, bytes_eq, Option, Some, None, if◌then◌else◌}
-use Rattle.graph_script.specs.Lexical.{lines_of, words_of}
+-- Notes on a command that was accepted, by its words, what it found and the work that it did.
+-- Source: this project's own.
+use Rattle.std.specs.Prelude.{ℕ, List, [], ◌++◌, codes, Option, Some, None}
+use Rattle.pw_graph.specs.declared.event.Event.{Event}
+use Rattle.pw_graph.specs.declared.plan.Plan.{Plan}
+use Rattle.wav_files.specs.declared.outcome.Peak.{Peak}
+use Rattle.graph_script.specs.declared.script.Script.{Script}
+use Rattle.trace_check.specs.declared.reasons.Reason.{Reason}
 use Rattle.command_frame.specs.declared.work.Work.{Work}
+use Rattle.run_results.specs.declared.found.What.{What}
+use Rattle.run_results.specs.declared.found.What.TheVariants as W
 use Rattle.shown_words.specs.Escaping.{escaped}
 use Rattle.fault_messages.specs.KeyNames.{key_clash}
 use Rattle.fault_messages.specs.LinkNotes.{link_notes}
-use Rattle.fault_messages.specs.Places.{word}
+use Rattle.fault_messages.specs.NoteHeads.{trace_note}
+use Rattle.fault_messages.specs.Places.{Words, word}
+use Rattle.fault_messages.specs.ReasonNotes.{reason_note}
 use Rattle.fault_messages.specs.SinkNotes.{sink_notes}
-use Rattle.fault_messages.specs.ReportedLines.{first_line}
 
 -- of a run: its links, then its sinks and meters
-abbrev pub run_notes : List (List ℕ) → Option (List ℕ) → Work → List ℕ
-run_notes words None work = []
-run_notes words (Some script) work = link_notes words 1 (lines_of script) work.text
-    ++ sink_notes words work script 1 (lines_of script)
+abbrev pub run_notes : Words → Script → Plan → List Peak → Option Work → List ℕ
+run_notes words script plan peaks None = []
+run_notes words script plan peaks (Some work) =
+    link_notes words plan.nodes script.lines plan.lines
+    ++ sink_notes words script work.stores peaks
 
--- of a check: a line of the trace, and the line that is no event
-unfoldable pub trace_head : List ℕ → List ℕ → List ℕ
-trace_head trace n = codes "pipegraph: " ++ (escaped trace ++ (codes ":" ++ (n ++ codes ": ")))
+-- of a check: the reason, where there is one; and a line of the trace that is no event
+abbrev pub check_note : Words → Words → Option Reason → Option Event → List ℕ
+check_note words names None event = []
+check_note words names (Some reason) event = reason_note words names event reason
 
-unfoldable pub trace_note : List (List ℕ) → List ℕ → List ℕ → List ℕ
-trace_note words n what = trace_head (word words 2) n ++ (what ++ codes "\n")
-
-abbrev pub check_note : List (List ℕ) → List (List ℕ) → List ℕ
-check_note words ws =
-    if bytes_eq (word ws 0) (codes "line")
-    then trace_note words (word ws 1)
-    (codes "no event line; grep -E '^(begin|start|finish|tick|end) ' takes those of a run's text")
-    else []
+unfoldable pub no_event : List ℕ
+no_event =
+    codes "no event line; grep -E '^(begin|start|finish|tick|end) ' takes those of a run's text"
 
 -- of a filter: the key under which the objects clash
 unfoldable pub pair_head : List ℕ → List ℕ → List ℕ
 pair_head a b = codes "pipegraph: " ++ (escaped a ++ (codes " and " ++ (escaped b ++ codes ": ")))
 
-unfoldable pub clash_text : List ℕ → List ℕ
-clash_text key =
-    if bytes_eq key (codes "type") then codes "objects of different types" else key_clash key
+abbrev pub clash_text : Option ℕ → List ℕ
+clash_text None = codes "objects of different types"
+clash_text (Some key) = key_clash key
 
-abbrev pub filter_note : List (List ℕ) → List (List ℕ) → List ℕ
-filter_note words ws =
-    if bytes_eq (word ws 0) (codes "clash")
-    then pair_head (word words 1) (word words 2) ++ (clash_text (word ws 1) ++ codes "\n") else []
+abbrev pub clash_note : Words → Option ℕ → List ℕ
+clash_note words key =
+    pair_head (word words 1) (word words 2) ++ (clash_text key ++ codes "\n")
 
--- THE NOTES, by what was stored and put
-unfoldable pub work_notes : List (List ℕ) → Option (List ℕ) → Work → List ℕ
-work_notes words script work =
-    if bytes_eq (word words 0) (codes "run") || bytes_eq (word words 0) (codes "groups")
-    then run_notes words script work
-    else (if bytes_eq (word words 0) (codes "check")
-    then check_note words (words_of (first_line work.text))
-    else (if bytes_eq (word words 0) (codes "filter")
-    then filter_note words (words_of (first_line work.text)) else []))
-
-abbrev pub notes : List (List ℕ) → Option (List ℕ) → Option Work → List ℕ
-notes words script None = []
-notes words script (Some work) = work_notes words script work
+-- THE NOTES, by what was found and what was stored
+abbrev pub notes : Words → What → Option Work → List ℕ
+notes words W.Nothing work = []
+notes words (W.Run script plan peaks) work = run_notes words script plan peaks work
+notes words (W.Check names reason event) work = check_note words names reason event
+notes words (W.NoEvent n) work = trace_note words n no_event
+notes words (W.Clash key) work = clash_note words key

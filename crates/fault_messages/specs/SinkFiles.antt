@@ -3,9 +3,10 @@
 use Rattle.std.specs.Prelude.{ℕ, ◌&&◌, Bool, List, [], ◌++◌, codes, bytes_eq, nat_lt, if◌then◌else◌}
 use Rattle.std.specs.List.{list_any}
 use Rattle.command_frame.specs.declared.work.Store.{Store}
+use Rattle.graph_script.specs.declared.script.Line.{Line}
+use Rattle.fault_messages.specs.NoteHeads.{note_at}
 use Rattle.fault_messages.specs.Places.{Words, quoted}
-use Rattle.fault_messages.specs.SuchLines.{has_line}
-use Rattle.fault_messages.specs.ReportedLines.{note_at}
+use Rattle.fault_messages.specs.ScriptLines.{is_read}
 
 -- a store of this file, also of a line after this one; and whether there is one
 abbrev pub writes : List ℕ → Store → Bool
@@ -34,6 +35,6 @@ unfoldable pub read_too : List ℕ → List ℕ
 read_too file = quoted file
     ++ codes " is a source's file too: it was read first, and written after that"
 
-abbrev pub source_note : Words → List ℕ → ℕ → List ℕ → List ℕ
-source_note words script n file =
-    if has_line (codes "source") 2 file script then note_at words n (read_too file) else []
+abbrev pub source_note : Words → List Line → ℕ → List ℕ → List ℕ
+source_note words lines n file =
+    if is_read lines file then note_at words n (read_too file) else []

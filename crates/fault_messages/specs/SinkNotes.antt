@@ -1,21 +1,18 @@
 -- Sinks and meters that got no format or no frames, the files of sinks, and samples at a limit, in
 -- words. Source: this project's own.
-use Rattle.std.specs.Prelude.{ℕ, ◌+◌, ℤ, Bool, List, [], ◌∷◌, ◌++◌, codes, bytes_eq, Option, Some, None, if◌then◌else◌}
-use Rattle.graph_script.specs.Lexical.{words_of}
+use Rattle.std.specs.Prelude.{ℕ, ◌==◌, ℤ, List, [], ◌++◌, codes, find, flat_map, slice_index_or, Option, Some, None, if◌then◌else◌}
 use Rattle.command_frame.specs.declared.work.Store.{Store}
-use Rattle.command_frame.specs.declared.work.Work.{Work}
+use Rattle.graph_script.specs.declared.command.Command.{Command}
+use Rattle.graph_script.specs.declared.command.Command.TheVariants as C
+use Rattle.graph_script.specs.declared.script.Line.{Line}
+use Rattle.graph_script.specs.declared.script.Script.{Script}
+use Rattle.wav_files.specs.declared.outcome.Peak.{Peak}
 use Rattle.fault_messages.specs.ClippedSinks.{clipped_note}
 use Rattle.fault_messages.specs.EmptySinks.{empty_note, still_note}
-use Rattle.fault_messages.specs.Places.{Words, word, quoted}
+use Rattle.fault_messages.specs.NoteHeads.{note_at}
+use Rattle.fault_messages.specs.Places.{Words, quoted}
 use Rattle.fault_messages.specs.SinkFiles.{is_written, later_note, source_note}
-use Rattle.fault_messages.specs.ReportedLines.{is_unused, note_at}
 use Rattle.fault_messages.specs.SinkWaves.{samples_at}
-
-abbrev pub is_sink : List (List ℕ) → Bool
-is_sink ws = bytes_eq (word ws 0) (codes "sink")
-
-abbrev pub is_meter : List (List ℕ) → Bool
-is_meter ws = bytes_eq (word ws 0) (codes "meter")
 
 -- of a node without a format; another sink may write the sink's file
 unfoldable pub unused_sink : List ℕ → List ℕ → List ℕ
@@ -26,42 +23,48 @@ unfoldable pub unused_other : List ℕ → List ℕ → List ℕ
 unused_other name file = quoted name ++ (codes " had no format at the end, so it does not write "
     ++ (quoted file ++ codes ", which another sink writes"))
 
-abbrev pub unused_said : List Store → Words → List ℕ
-unused_said stores ws =
-    if is_written stores (word ws 2) then unused_other (word ws 1) (word ws 2)
-    else unused_sink (word ws 1) (word ws 2)
+abbrev pub unused_said : List Store → List ℕ → List ℕ → List ℕ
+unused_said stores name file =
+    if is_written stores file then unused_other name file else unused_sink name file
 
 unfoldable pub unused_meter : List ℕ → List ℕ
 unused_meter name = quoted name ++ codes " had no format at the end, so it has no peak"
 
--- of the line of a sink that stored samples
-abbrev pub wave_notes : Words → List ℤ → List ℕ → ℕ → Words → List ℕ
-wave_notes words samples script n ws = empty_note words samples script n ws
-    ++ clipped_note words samples n (word ws 1)
+-- of the file of a sink that stored samples, and of the samples
+abbrev pub file_notes : Words → List Line → List Store → ℕ → List ℕ → List ℕ
+file_notes words lines stores n file =
+    later_note words stores n file ++ source_note words lines n file
 
-abbrev pub used_notes : Words → List Store → List ℤ → List ℕ → ℕ → Words → List ℕ
-used_notes words stores samples script n ws = later_note words stores n (word ws 2)
-    ++ (source_note words script n (word ws 2) ++ wave_notes words samples script n ws)
+abbrev pub wave_notes : Words → List Line → List ℤ → ℕ → List ℕ → List ℕ → List ℕ
+wave_notes words lines samples n name file =
+    empty_note words lines samples n name file ++ clipped_note words samples n name
 
--- of the line of a sink, by the samples that it stored, if it did; of a meter
-abbrev pub sink_note : Words → List Store → Option (List ℤ) → List ℕ → ℕ → Words → List ℕ
-sink_note words stores None script n ws = note_at words n (unused_said stores ws)
-sink_note words stores (Some samples) script n ws = used_notes words stores samples script n ws
+-- of a sink by the samples that it stored, if it did; of a meter by its peak, if it has one
+abbrev pub sink_note : Words → List Line → List Store → Option (List ℤ) → ℕ → List ℕ → List ℕ
+    → List ℕ
+sink_note words lines stores None n name file = note_at words n (unused_said stores name file)
+sink_note words lines stores (Some samples) n name file =
+    file_notes words lines stores n file ++ wave_notes words lines samples n name file
 
-abbrev pub meter_note : Words → List ℕ → List ℕ → ℕ → Words → List ℕ
-meter_note words told script n ws =
-    if is_unused told (word ws 1) then note_at words n (unused_meter (word ws 1))
-    else still_note words told script n (word ws 1)
+abbrev pub peak_of : List Peak → ℕ → Option Peak
+peak_of peaks node = find (λ peak. peak.node == node) peaks
 
-abbrev pub sink_part : Words → Work → List ℕ → ℕ → List ℕ → List ℕ
-sink_part words work script n line =
-    if is_sink (words_of line)
-    then sink_note words work.stores (samples_at work.stores n) script n (words_of line)
-    else (if is_meter (words_of line) then meter_note words work.text script n (words_of line)
-    else [])
+abbrev pub meter_note : Words → List Line → Option Peak → ℕ → List ℕ → List ℕ
+meter_note words lines None n name = note_at words n (unused_meter name)
+meter_note words lines (Some peak) n name = still_note words lines peak.value n name
 
--- THE NOTES ON SINKS AND METERS of the lines from this number on
-unfoldable pub sink_notes : Words → Work → List ℕ → ℕ → Words → List ℕ
-sink_notes words work script n [] = []
-sink_notes words work script n (line ∷ lines) =
-    sink_part words work script n line ++ sink_notes words work script (n + 1) lines
+-- the notes on a line, by its number and by its command
+abbrev pub name_of : Script → ℕ → List ℕ
+name_of script node = slice_index_or script.names node []
+
+abbrev pub sink_part : Words → Script → List Store → List Peak → ℕ → Command → List ℕ
+sink_part words script stores peaks n (C.Sink node file) =
+    sink_note words script.lines stores (samples_at stores n) n (name_of script node) file
+sink_part words script stores peaks n (C.Meter node) =
+    meter_note words script.lines (peak_of peaks node) n (name_of script node)
+sink_part words script stores peaks n command = []
+
+-- THE NOTES ON SINKS AND METERS
+abbrev pub sink_notes : Words → Script → List Store → List Peak → List ℕ
+sink_notes words script stores peaks =
+    flat_map (λ line. sink_part words script stores peaks line.line line.command) script.lines

@@ -1,5 +1,5 @@
 //! What is wrong with an event of a trace, or what is missing where none comes, in parts.
-ghost use Rattle.std.specs.Prelude.{◌≡◌, ◌++◌, decimal, option_copied, OnOk};
+ghost use Rattle.std.specs.Prelude.{◌≡◌, ◌++◌, decimal, OnOk};
 ghost use Rattle.fault_messages.specs.CauseWords.{cycle_of, its_node, not_begun, only_begin, not_ended};
 ghost use Rattle.fault_messages.specs.CauseWords.{not_finished, node_said, waits_for, not_late};
 ghost use Rattle.fault_messages.specs.NodeNames.{node_text};
@@ -23,12 +23,11 @@ pub fn cycle_of(event: Event) -> u32
 }
 
 // The node that an event starts or finishes.
-fn put_its_node(text: &mut Text, script: Option<&[u8]>, event: Event) -> Result<(), Memory>
-    ensures { OnOk result
-        (text.new ≡ text.old ++ its_node (option_copied script.entry) event) }
+fn put_its_node(text: &mut Text, names: &[Text], event: Event) -> Result<(), Memory>
+    ensures { OnOk result (text.new ≡ text.old ++ its_node names.now event) }
 {
     match event {
-        Event::Start { node, .. } | Event::Finish { node, .. } => put_node(text, script, node),
+        Event::Start { node, .. } | Event::Finish { node, .. } => put_node(text, names, node),
         _ => text.extend(b"its node"),
     }
 }
@@ -63,35 +62,34 @@ fn put_cycle_node(
     before: &[u8],
     cycle: u32,
     between: &[u8],
-    script: Option<&[u8]>,
+    names: &[Text],
     node: u32,
     behind: &[u8],
 ) -> Result<(), Memory>
     ensures { OnOk result (text.new ≡ text.old ++ (before.now ++ (decimal cycle
-        ++ (between.now ++ (node_text (option_copied script.entry) node ++ behind.now))))) }
+        ++ (between.now ++ (node_text names.now node ++ behind.now))))) }
 {
     text.extend(before)?;
     append_decimal(text, u64::from(cycle))?;
-    put_node_between(text, between, script, node, behind)
+    put_node_between(text, between, names, node, behind)
 }
 
 /// That a cycle cannot end before a node has finished.
 #[tactic(auto, unfolding(crate::specs::CauseWords::not_finished))]
 pub fn put_not_finished(
     text: &mut Text,
-    script: Option<&[u8]>,
+    names: &[Text],
     cycle: u32,
     node: u32,
 ) -> Result<(), Memory>
-    ensures { OnOk result
-        (text.new ≡ text.old ++ not_finished (option_copied script.entry) cycle node) }
+    ensures { OnOk result (text.new ≡ text.old ++ not_finished names.now cycle node) }
 {
     put_cycle_node(
         text,
         b"cycle ",
         cycle,
         b" cannot end before ",
-        script,
+        names,
         node,
         b" has finished",
     )
@@ -116,34 +114,27 @@ pub fn put_said(
 #[tactic(auto, unfolding(crate::specs::CauseWords::node_said))]
 pub fn put_node_said(
     text: &mut Text,
-    script: Option<&[u8]>,
+    names: &[Text],
     event: Event,
     is: &[u8],
     after: &[u8],
 ) -> Result<(), Memory>
     ensures { OnOk result (text.new ≡ text.old
-        ++ node_said (its_node (option_copied script.entry) event) is.now (cycle_of event)
-        after.now) }
+        ++ node_said (its_node names.now event) is.now (cycle_of event) after.now) }
 {
-    put_its_node(text, script, event)?;
+    put_its_node(text, names, event)?;
     put_number(text, is, cycle_of(event), after)
 }
 
 /// For which node the node of an event waits.
 #[tactic(auto, unfolding(crate::specs::CauseWords::waits_for))]
-pub fn put_waits_for(
-    text: &mut Text,
-    script: Option<&[u8]>,
-    event: Event,
-    node: u32,
-) -> Result<(), Memory>
+pub fn put_waits_for(text: &mut Text, names: &[Text], event: Event, node: u32) -> Result<(), Memory>
     ensures { OnOk result (text.new ≡ text.old
-        ++ waits_for (its_node (option_copied script.entry) event)
-        (node_text (option_copied script.entry) node) (cycle_of event)) }
+        ++ waits_for (its_node names.now event) (node_text names.now node) (cycle_of event)) }
 {
-    put_its_node(text, script, event)?;
+    put_its_node(text, names, event)?;
     text.extend(b" waits for ")?;
-    put_node(text, script, node)?;
+    put_node(text, names, node)?;
     put_number(
         text,
         b", which has not finished in cycle ",
@@ -154,16 +145,10 @@ pub fn put_waits_for(
 
 /// Why a node cannot be late in a cycle.
 #[tactic(auto, unfolding(crate::specs::CauseWords::not_late))]
-pub fn put_not_late(
-    text: &mut Text,
-    script: Option<&[u8]>,
-    node: u32,
-    cycle: u32,
-) -> Result<(), Memory>
-    ensures { OnOk result (text.new ≡ text.old
-        ++ not_late (node_text (option_copied script.entry) node) cycle) }
+pub fn put_not_late(text: &mut Text, names: &[Text], node: u32, cycle: u32) -> Result<(), Memory>
+    ensures { OnOk result (text.new ≡ text.old ++ not_late (node_text names.now node) cycle) }
 {
-    put_node(text, script, node)?;
+    put_node(text, names, node)?;
     put_number(
         text,
         b" cannot be late: it drives cycle ",

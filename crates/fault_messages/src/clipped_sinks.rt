@@ -2,7 +2,8 @@
 ghost use Rattle.std.specs.Prelude.{◌≡◌, ◌++◌, map, string_bytes, OnOk};
 ghost use Rattle.fault_messages.specs.ClippedSinks.{limit_words, clipped_said, clipped_part, clipped_note};
 
-use crate::putting::{put_behind, put_note_head};
+use crate::note_heads::put_note_head;
+use crate::putting::put_behind;
 use crate::sink_waves::at_limit;
 use pw_lists::{Memory, Text, append_decimal};
 

@@ -4,7 +4,7 @@ ghost use Rattle.fault_messages.specs.CycleRoom.{nodes_made, counted, room_for, 
 ghost use Rattle.fault_messages.specs.CycleRoom.{room_said, room_part};
 ghost use Rattle.fault_messages.specs.Places.{lines_before};
 
-use crate::node_names::is_maker;
+use crate::makers::is_maker;
 use crate::places::word_at;
 use pw_lists::{Memory, Text, Which, append_decimal, next_piece};
 

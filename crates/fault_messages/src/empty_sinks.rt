@@ -1,21 +1,14 @@
 //! Sinks and meters that got no frames, in words.
 ghost use Rattle.std.specs.Prelude.{◌≡◌, ◌++◌, map, string_bytes, OnOk};
-ghost use Rattle.graph_script.specs.Lexical.{words_of};
-ghost use Rattle.fault_messages.specs.EmptySinks.{has_cycles, no_cycles, drain_part, groups_part, inactive_said};
+ghost use Rattle.fault_messages.specs.EmptySinks.{no_cycles, drain_part, groups_part, inactive_said};
 ghost use Rattle.fault_messages.specs.EmptySinks.{empty_cause, empty_sink, still_meter, empty_note, still_note};
 
-use crate::lines::word_of;
+use crate::note_heads::put_note_head;
 use crate::places::word_at;
-use crate::putting::{put_behind, put_between, put_note_head, put_two_quoted};
-use crate::such_lines::{has_command, is_given};
+use crate::putting::{put_behind, put_between, put_two_quoted};
+use crate::script_lines::{has_cycles, may_have_cycles};
+use graph_script::Line;
 use pw_lists::{Memory, Text};
-
-// Whether a line of the script may make cycles.
-fn has_cycles(script: &[u8]) -> bool
-    ensures { result ≡ has_cycles script.now }
-{
-    has_command(script, b"cycles") || has_command(script, b"drain")
-}
 
 #[tactic(auto, unfolding(crate::specs::EmptySinks::no_cycles))]
 fn no_cycles() -> &'static [u8]
@@ -26,10 +19,10 @@ fn no_cycles() -> &'static [u8]
 
 // What is known of `drain`, where there is no `cycles` line.
 #[tactic(auto, unfolding(crate::specs::EmptySinks::drain_part))]
-fn drain_part(script: &[u8]) -> &'static [u8]
-    ensures { result.now ≡ drain_part script.now }
+fn drain_part(lines: &[Line]) -> &'static [u8]
+    ensures { result.now ≡ drain_part lines.now }
 {
-    if has_command(script, b"cycles") {
+    if has_cycles(lines) {
         b""
     } else {
         b"; drain goes on only while an active source has frames left"
@@ -63,11 +56,11 @@ fn put_inactive(text: &mut Text, drain: &[u8], groups: &[u8]) -> Result<(), Memo
 
 // Why a sink has no frames.
 #[tactic(auto, unfolding(crate::specs::EmptySinks::empty_cause))]
-fn put_empty_cause(text: &mut Text, command: &[u8], script: &[u8]) -> Result<(), Memory>
-    ensures { OnOk result (text.new ≡ text.old ++ empty_cause command.now script.now) }
+fn put_empty_cause(text: &mut Text, command: &[u8], lines: &[Line]) -> Result<(), Memory>
+    ensures { OnOk result (text.new ≡ text.old ++ empty_cause command.now lines.now) }
 {
-    if has_cycles(script) {
-        put_inactive(text, drain_part(script), groups_part(command))
+    if may_have_cycles(lines) {
+        put_inactive(text, drain_part(lines), groups_part(command))
     } else {
         text.extend(no_cycles())
     }
@@ -79,10 +72,10 @@ fn put_empty_sink(
     name: &[u8],
     file: &[u8],
     command: &[u8],
-    script: &[u8],
+    lines: &[Line],
 ) -> Result<(), Memory>
     ensures { OnOk result (text.new ≡ text.old
-        ++ empty_sink name.now file.now (empty_cause command.now script.now)) }
+        ++ empty_sink name.now file.now (empty_cause command.now lines.now)) }
 {
     put_two_quoted(
         text,
@@ -91,7 +84,7 @@ fn put_empty_sink(
         file,
         b" is an empty WAV file",
     )?;
-    put_empty_cause(text, command, script)
+    put_empty_cause(text, command, lines)
 }
 
 #[tactic(auto, unfolding(crate::specs::EmptySinks::still_meter))]
@@ -105,41 +98,41 @@ fn put_still_meter(text: &mut Text, name: &[u8]) -> Result<(), Memory>
     )
 }
 
-/// The note on the line of a sink that stored no frames, by its samples.
+/// The note on a sink that stored no frames, by its samples.
 pub fn put_empty_note(
     text: &mut Text,
     words: &[String],
+    lines: &[Line],
     samples: &[i16],
-    script: &[u8],
     number: u32,
-    line: &[u8],
+    name: &[u8],
+    file: &[u8],
 ) -> Result<(), Memory>
     ensures { OnOk result (text.new ≡ text.old
-        ++ empty_note (map string_bytes words.now) samples.now script.now number
-        (words_of line.now)) }
+        ++ empty_note (map string_bytes words.now) lines.now samples.now number name.now
+        file.now) }
 {
     if !samples.is_empty() {
         return Ok(());
     }
-    let (name, file) = (word_of(line, 1), word_of(line, 2));
     put_note_head(text, words, number)?;
-    put_empty_sink(text, name, file, word_at(words, 0), script)?;
+    put_empty_sink(text, name, file, word_at(words, 0), lines)?;
     text.extend(b"\n")
 }
 
-/// The note on a meter with the peak 0, where the script has no cycles.
+/// The note on a meter with this peak, where the script has no cycles.
 pub fn put_still_note(
     text: &mut Text,
     words: &[String],
-    told: &[u8],
-    script: &[u8],
+    lines: &[Line],
+    peak: u32,
     number: u32,
     name: &[u8],
 ) -> Result<(), Memory>
     ensures { OnOk result (text.new ≡ text.old
-        ++ still_note (map string_bytes words.now) told.now script.now number name.now) }
+        ++ still_note (map string_bytes words.now) lines.now peak number name.now) }
 {
-    if has_cycles(script) || !is_given(told, b"peak", name, b"0") {
+    if peak != 0 || may_have_cycles(lines) {
         return Ok(());
     }
     put_note_head(text, words, number)?;

@@ -2,15 +2,14 @@
 //! that was accepted.
 ghost use Rattle.std.specs.Prelude.{◌≡◌, ◌++◌, map, string_bytes, option_copied, OnOk, IfOk};
 ghost use Rattle.fault_messages.specs.Explaining.{place_of, line_in, line_named, bytes_in};
-ghost use Rattle.fault_messages.specs.Explaining.{noted_by, noted, explained};
+ghost use Rattle.fault_messages.specs.Explaining.{noted, explained};
 
 use crate::lines::line_at;
 use crate::notes::put_notes;
 use crate::places::is_line;
-use crate::reason_notes::put_reason_note;
 use crate::sentences::message;
 use pw_lists::{Memory, Text};
-use run_results::{Found, Status, What};
+use run_results::{Found, Status};
 use std::alloc::Global;
 use system_files::FileWhy;
 
@@ -81,23 +80,6 @@ fn bytes_in(script: Option<&[u8]>) -> &[u8]
     }
 }
 
-// The notes, by the reason of a check where one was found.
-fn put_noted_by(text: &mut Text, what: What, found: &Found, words: &[String]) -> Result<(), Memory>
-    ensures { OnOk result
-        (text.new ≡ text.old ++ noted_by what found.now (map string_bytes words.now)) }
-{
-    let script = loaded(&found.script);
-    match what {
-        What::Nothing | What::Check { reason: None, .. } => {
-            put_notes(text, words, script, &found.work)
-        }
-        What::Check {
-            reason: Some(reason),
-            event,
-        } => put_reason_note(text, words, script, event, reason),
-    }
-}
-
 // The notes, where all was done.
 fn put_noted(
     text: &mut Text,
@@ -109,7 +91,7 @@ fn put_noted(
         (text.new ≡ text.old ++ noted status.now found.now (map string_bytes words.now)) }
 {
     match status {
-        Status::Ok => put_noted_by(text, found.what, found, words),
+        Status::Ok => put_notes(text, words, &found.what, &found.work),
         _ => Ok(()),
     }
 }

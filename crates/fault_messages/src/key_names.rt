@@ -1,11 +1,9 @@
 //! Names of the keys of formats.
-ghost use Rattle.std.specs.Prelude.{◌≡◌, ◌++◌, option_copied, OnOk};
-ghost use Rattle.graph_script.specs.Arguments.{number_of};
-ghost use Rattle.fault_messages.specs.KeyNames.{key_name, name_part, key_part, name_at, key_word_name, clash_said, key_clash};
+ghost use Rattle.std.specs.Prelude.{◌≡◌, ◌++◌, decimal, option_copied, OnOk};
+ghost use Rattle.fault_messages.specs.KeyNames.{key_name, key_part, common_name, clash_said, key_clash};
 
-use crate::putting::{put_between, put_both};
-use graph_script::number_within;
-use pw_lists::{Memory, Text};
+use crate::putting::{put_between, put_number};
+use pw_lists::{Memory, Text, append_decimal};
 
 // The name of a key, if it has one here.
 #[tactic(auto, unfolding(crate::specs::KeyNames::key_name))]
@@ -41,54 +39,39 @@ pub fn put_key(text: &mut Text, key: u32) -> Result<(), Memory>
     }
 }
 
-// What the key of a word is called.
-fn key_word_name(word: &[u8]) -> &'static [u8]
-    ensures { result.now ≡ key_word_name word.now }
+// What the values under a key are called.
+fn common_name(key: u32) -> &'static [u8]
+    ensures { result.now ≡ common_name (key_name key) }
 {
-    match number_within(word, 0, u32::MAX) {
-        None => b"value".as_slice(),
-        Some(key) => match key_name(key) {
-            None => b"value".as_slice(),
-            Some(name) => name,
-        },
+    match key_name(key) {
+        None => b"value",
+        Some(name) => name,
     }
 }
 
-// The name in a format of the key that a word gives, in brackets; nothing where it has none.
-fn put_word_key(text: &mut Text, word: &[u8]) -> Result<(), Memory>
-    ensures { OnOk result (text.new
-        ≡ text.old ++ name_part (name_at (number_of 0 4294967295 word.now))) }
+// Words, a key, and its name in a format.
+fn put_named_key(text: &mut Text, before: &[u8], key: u32) -> Result<(), Memory>
+    ensures { OnOk result (text.new ≡ text.old ++ (before.now ++ (decimal key ++ key_part key))) }
 {
-    match number_within(word, 0, u32::MAX) {
-        None => Ok(()),
-        Some(key) => put_key(text, key),
-    }
+    text.extend(before)?;
+    append_decimal(text, u64::from(key))?;
+    put_key(text, key)
 }
 
-// Words, the word of a key, and that name.
-fn put_named_key(text: &mut Text, before: &[u8], word: &[u8]) -> Result<(), Memory>
-    ensures { OnOk result (text.new ≡ text.old ++ (before.now
-        ++ (word.now ++ name_part (name_at (number_of 0 4294967295 word.now))))) }
-{
-    put_both(text, before, word)?;
-    put_word_key(text, word)
-}
-
-/// That two objects have nothing in common under the key of a word.
+/// That two objects have nothing in common under a key.
 #[tactic(auto, unfolding(crate::specs::KeyNames::key_clash))]
-pub fn put_key_clash(text: &mut Text, word: &[u8]) -> Result<(), Memory>
-    ensures { OnOk result (text.new ≡ text.old ++ key_clash word.now) }
+pub fn put_key_clash(text: &mut Text, key: u32) -> Result<(), Memory>
+    ensures { OnOk result (text.new ≡ text.old ++ key_clash key) }
 {
-    put_named_key(text, b"no common value under key ", word)
+    put_named_key(text, b"no common value under key ", key)
 }
 
-/// That two formats have nothing in common under the key of a word.
-pub fn put_clash(text: &mut Text, word: &[u8]) -> Result<(), Memory>
-    ensures { OnOk result (text.new ≡ text.old ++ clash_said word.now) }
+/// That two formats have nothing in common under a key.
+#[tactic(auto, unfolding(crate::specs::KeyNames::clash_said))]
+pub fn put_clash(text: &mut Text, key: u32) -> Result<(), Memory>
+    ensures { OnOk result (text.new ≡ text.old ++ clash_said key) }
 {
     text.extend(b"no common ")?;
-    text.extend(key_word_name(word))?;
-    text.extend(b" (key ")?;
-    text.extend(word)?;
-    text.extend(b")")
+    text.extend(common_name(key))?;
+    put_number(text, b" (key ", key, b")")
 }

@@ -1,20 +1,25 @@
 //! Why links were not made, in words.
 ghost use Rattle.std.specs.Prelude.{◌≡◌, ◌++◌, map, string_bytes, OnOk};
-ghost use Rattle.graph_script.specs.Lexical.{lines_of, words_of};
-ghost use Rattle.fault_messages.specs.LinkNotes.{loop_said, map_part, key_said, cause_said, nolink_head, nolink_said, link_note, link_part, told_behind, link_notes};
+ghost use Rattle.fault_messages.specs.LinkNotes.{loop_said, map_part, is_refused, cause_said, ends_head, refused_said, link_note, link_notes};
+ghost use Rattle.fault_messages.specs.KeyNames.{clash_said};
+ghost use Rattle.fault_messages.specs.working.LinkSteps.{first_note, link_part, links_after, links_behind};
 
 use crate::key_names::put_clash;
-use crate::lines::word_of;
-use crate::name_rules::{end_name, is_pair};
-use crate::putting::{put_note_head, put_two_quoted};
-use crate::reported_lines::{behind_line, first_line};
-use pw_lists::{Memory, Text, next_piece};
+use crate::link_ends::put_two_ends;
+use crate::note_heads::put_note_head;
+use crate::script_lines::has_ends;
+use graph_script::Line;
+use pw_graph::{LineOutcome, LinkLine, PlanNode};
+use pw_lists::{Memory, Text};
+
+/// The key of the channels of a format.
+const CHANNELS_KEY: u32 = 65540;
 
 // Of a loop.
-fn loop_said(line: &[u8]) -> &'static [u8]
-    ensures { result.now ≡ loop_said (words_of line.now) }
+fn loop_said(link: LinkLine) -> &'static [u8]
+    ensures { result.now ≡ loop_said link }
 {
-    if end_name(word_of(line, 1)) == end_name(word_of(line, 2)) {
+    if link.from.node == link.to.node {
         b"a node is not linked to itself"
     } else {
         b"it would close a loop, which only a link of an async node may"
@@ -22,10 +27,10 @@ fn loop_said(line: &[u8]) -> &'static [u8]
 }
 
 // What makes two channels of one, where the key is that of the channels.
-fn map_part(key: &[u8]) -> &'static [u8]
-    ensures { result.now ≡ map_part key.now }
+fn map_part(key: u32) -> &'static [u8]
+    ensures { result.now ≡ map_part key }
 {
-    if key == b"65540".as_slice() {
+    if key == CHANNELS_KEY {
         b"; map NAME 1 0,0 makes two channels of one"
     } else {
         b""
@@ -33,111 +38,115 @@ fn map_part(key: &[u8]) -> &'static [u8]
 }
 
 // A key under which the formats have nothing in common.
-fn put_key_cause(text: &mut Text, key: &[u8]) -> Result<(), Memory>
-    ensures { OnOk result (text.new ≡ text.old ++ key_said key.now) }
+fn put_key_cause(text: &mut Text, key: u32) -> Result<(), Memory>
+    ensures { OnOk result (text.new ≡ text.old ++ (clash_said key ++ map_part key)) }
 {
     put_clash(text, key)?;
     text.extend(map_part(key))
 }
 
-// The cause of a link that is not made.
-#[tactic(auto, unfolding(crate::specs::LinkNotes::cause_said))]
-fn put_cause(text: &mut Text, line: &[u8]) -> Result<(), Memory>
-    ensures { OnOk result (text.new ≡ text.old ++ cause_said (words_of line.now)) }
+// Whether the link of a line is not made.
+fn is_refused(outcome: LineOutcome) -> bool
+    ensures { result ≡ is_refused outcome }
 {
-    let cause = word_of(line, 3);
-    if cause == b"loop".as_slice() {
-        text.extend(loop_said(line))
-    } else if cause == b"twice".as_slice() {
-        text.extend(b"it is there already")
-    } else if cause == b"buffers".as_slice() {
-        text.extend(b"no number of buffers suits both ports")
-    } else {
-        put_key_cause(text, cause)
+    match outcome {
+        LineOutcome::Linked { .. } | LineOutcome::Gone | LineOutcome::NotThere => false,
+        LineOutcome::NoFormat { .. }
+        | LineOutcome::NoBuffers
+        | LineOutcome::Looped
+        | LineOutcome::Twice => true,
     }
 }
 
-#[tactic(auto, unfolding(crate::specs::LinkNotes::nolink_head))]
-fn put_nolink_head(text: &mut Text, from: &[u8], to: &[u8]) -> Result<(), Memory>
-    ensures { OnOk result (text.new ≡ text.old ++ nolink_head from.now to.now) }
+// The cause of a link that is not made; nothing of another line.
+fn put_cause(text: &mut Text, link: LinkLine) -> Result<(), Memory>
+    ensures { OnOk result (text.new ≡ text.old ++ cause_said link link.outcome) }
 {
-    put_two_quoted(text, from, b" to ", to, b" is no link: ")
+    match link.outcome {
+        LineOutcome::NoFormat { key } => put_key_cause(text, key),
+        LineOutcome::NoBuffers => text.extend(b"no number of buffers suits both ports"),
+        LineOutcome::Looped => text.extend(loop_said(link)),
+        LineOutcome::Twice => text.extend(b"it is there already"),
+        LineOutcome::Linked { .. } | LineOutcome::Gone | LineOutcome::NotThere => Ok(()),
+    }
 }
 
-fn put_nolink(text: &mut Text, line: &[u8]) -> Result<(), Memory>
-    ensures { OnOk result (text.new ≡ text.old ++ nolink_said (words_of line.now)) }
+#[tactic(auto, unfolding(crate::specs::LinkNotes::ends_head))]
+fn put_ends_head(text: &mut Text, nodes: &[PlanNode], link: LinkLine) -> Result<(), Memory>
+    ensures { OnOk result (text.new ≡ text.old ++ ends_head nodes.now link) }
 {
-    put_nolink_head(text, word_of(line, 1), word_of(line, 2))?;
-    put_cause(text, line)
+    put_two_ends(text, nodes, link.from, b" to ", link.to, b" is no link: ")
 }
 
-// The note on a line of a script, by what was put of it.
-fn put_link_note(text: &mut Text, words: &[String], number: u32, told: &[u8]) -> Result<(), Memory>
-    ensures { OnOk result
-        (text.new ≡ text.old ++ link_note (map string_bytes words.now) number told.now) }
+// The note on a line of the script, by what it did.
+fn put_link_note(
+    text: &mut Text,
+    words: &[String],
+    nodes: &[PlanNode],
+    number: u32,
+    link: LinkLine,
+) -> Result<(), Memory>
+    ensures { OnOk result (text.new ≡ text.old
+        ++ link_note (map string_bytes words.now) nodes.now number link) }
 {
-    if word_of(told, 0) != b"nolink".as_slice() {
+    if !is_refused(link.outcome) {
         return Ok(());
     }
     put_note_head(text, words, number)?;
-    put_nolink(text, told)?;
+    put_ends_head(text, nodes, link)?;
+    put_cause(text, link)?;
     text.extend(b"\n")
 }
 
-// The note on a line of a script, where it has two ends.
+// The note on a line of the script, where it has two ends, by the first of what is left.
 fn put_link_part(
     text: &mut Text,
     words: &[String],
-    number: u32,
-    line: &[u8],
-    told: &[u8],
+    nodes: &[PlanNode],
+    line: &Line,
+    links: &[LinkLine],
 ) -> Result<(), Memory>
     ensures { OnOk result (text.new ≡ text.old
-        ++ link_part (map string_bytes words.now) number line.now told.now) }
+        ++ link_part (map string_bytes words.now) nodes.now line.now links.now) }
 {
-    if is_pair(line) {
-        put_link_note(text, words, number, first_line(told))
-    } else {
-        Ok(())
+    if !has_ends(&line.command) {
+        return Ok(());
+    }
+    match links {
+        [] => Ok(()),
+        [link, ..] => put_link_note(text, words, nodes, line.line, *link),
     }
 }
 
-// What was put of the lines after this one.
-fn told_behind<'a>(line: &[u8], told: &'a [u8]) -> &'a [u8]
-    ensures { result.now ≡ told_behind line.now told.now }
+// What is left after this line.
+fn links_behind<'a>(line: &Line, links: &'a [LinkLine]) -> &'a [LinkLine]
+    ensures { result.now ≡ links_behind line.now links.now }
 {
-    if is_pair(line) {
-        behind_line(told)
-    } else {
-        told
+    if !has_ends(&line.command) {
+        return links;
+    }
+    match links {
+        [] => links,
+        [_, rest @ ..] => rest,
     }
 }
 
-/// Why links of a script were not made, a note for each, by the text of its run: that begins with a
-/// line for each `link` and `unlink` line.
+/// Why links of a script were not made, a note for each, by the plan's nodes, by the lines of the
+/// script, and by what those with two ends did, in their order.
 pub fn put_link_notes(
     text: &mut Text,
     words: &[String],
-    script: &[u8],
-    told: &[u8],
+    nodes: &[PlanNode],
+    lines: &[Line],
+    links: &[LinkLine],
 ) -> Result<(), Memory>
     ensures { OnOk result (text.new ≡ text.old
-        ++ link_notes (map string_bytes words.now) 1 (lines_of script.now) told.now) }
+        ++ link_notes (map string_bytes words.now) nodes.now lines.now links.now) }
 {
-    let mut rest = script;
-    let mut left = told;
-    let mut number: u32 = 1;
-    loop {
-        let (line, after) = next_piece(rest, b'\n');
-        put_link_part(text, words, number, line, left)?;
-        left = told_behind(line, left);
-        match after {
-            None => return Ok(()),
-            Some(more) => rest = more,
-        }
-        let Some(next) = number.checked_add(1) else {
-            return Err(Memory);
-        };
-        number = next;
+    let mut left = links;
+    for line in lines {
+        put_link_part(text, words, nodes, line, left)?;
+        left = links_behind(line, left);
     }
+    Ok(())
 }

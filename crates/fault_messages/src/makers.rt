@@ -1,18 +1,25 @@
-//! The line that makes a node of a name, and the kind of node.
+//! The lines that make nodes, the one that makes a node of a name, and the kind of node.
 ghost use Rattle.std.specs.Prelude.{◌≡◌, option_copied};
 ghost use Rattle.graph_script.specs.Lexical.{words_of};
-ghost use Rattle.fault_messages.specs.Makers.{makes, maker, is_made, kind_in, kind_of};
+ghost use Rattle.fault_messages.specs.Makers.{is_maker, makes, maker, is_made, kind_in, kind_of};
 ghost use Rattle.fault_messages.specs.Places.{lines_before};
 
 use crate::command_forms::node_form;
 use crate::lines::word_of;
 use pw_lists::next_piece;
 
+/// Whether the line makes a node.
+pub fn is_maker(line: &[u8]) -> bool
+    ensures { result ≡ is_maker line.now }
+{
+    node_form(word_of(line, 0)).is_some()
+}
+
 // Whether the line makes a node of this name.
 fn makes(name: &[u8], line: &[u8]) -> bool
     ensures { result ≡ makes name.now line.now }
 {
-    node_form(word_of(line, 0)).is_some() && word_of(line, 1) == name
+    is_maker(line) && word_of(line, 1) == name
 }
 
 // The first line before the one of this number, counted from 1, that makes a node of this name.

@@ -1,75 +1,76 @@
 //! Notes on a command that was accepted.
-ghost use Rattle.std.specs.Prelude.{◌≡◌, ◌++◌, map, string_bytes, option_copied, OnOk};
-ghost use Rattle.graph_script.specs.Lexical.{words_of};
-ghost use Rattle.fault_messages.specs.Notes.{run_notes, trace_head, trace_note, check_note, pair_head, clash_text, filter_note};
-ghost use Rattle.fault_messages.specs.Notes.{work_notes, notes};
+ghost use Rattle.std.specs.Prelude.{◌≡◌, ◌++◌, map, string_bytes, OnOk};
+ghost use Rattle.fault_messages.specs.Notes.{run_notes, check_note, no_event, pair_head, clash_text, clash_note, notes};
+ghost use Rattle.fault_messages.specs.NoteHeads.{trace_note};
 
 use crate::key_names::put_key_clash;
-use crate::lines::word_of;
 use crate::link_notes::put_link_notes;
+use crate::note_heads::put_trace_head;
 use crate::places::word_at;
-use crate::putting::{put_shown, put_shown_pair};
-use crate::reported_lines::first_line;
+use crate::putting::put_shown_pair;
+use crate::reason_notes::put_reason_note;
 use crate::sink_notes::put_sink_notes;
+use graph_script::Script;
+use pw_graph::{Event, Plan};
 use pw_lists::{Memory, Text};
-use run_results::Work;
+use run_results::{What, Work};
+use trace_check::Reason;
+use wav_files::Peak;
 
 // Of a run.
 fn put_run_notes(
     text: &mut Text,
     words: &[String],
-    script: Option<&[u8]>,
-    work: &Work,
+    script: &Script,
+    plan: &Plan,
+    peaks: &[Peak],
+    work: &Option<Work>,
 ) -> Result<(), Memory>
     ensures { OnOk result (text.new ≡ text.old
-        ++ run_notes (map string_bytes words.now) (option_copied script.entry) work.now) }
+        ++ run_notes (map string_bytes words.now) script.now plan.now peaks.now work.now) }
 {
-    match script {
+    match work {
         None => Ok(()),
-        Some(script) => {
-            put_link_notes(text, words, script, work.text.as_slice())?;
-            put_sink_notes(text, words, script, work)
+        Some(work) => {
+            let (nodes, links) = (plan.nodes.as_slice(), plan.lines.as_slice());
+            put_link_notes(text, words, nodes, script.lines.as_slice(), links)?;
+            put_sink_notes(text, words, script, work.stores.as_slice(), peaks)
         }
     }
 }
 
-// A line of a trace, given by its number, at the beginning of a note.
-#[tactic(auto, unfolding(crate::specs::Notes::trace_head))]
-fn put_trace_head(text: &mut Text, trace: &[u8], number: &[u8]) -> Result<(), Memory>
-    ensures { OnOk result (text.new ≡ text.old ++ trace_head trace.now number.now) }
-{
-    put_shown(text, b"pipegraph: ", trace, b":", number, b": ")
-}
-
-#[tactic(auto, unfolding(crate::specs::Notes::trace_note))]
-fn put_trace_note(
+// Of a check that found the events legal, or a reason why they are not.
+fn put_check_note(
     text: &mut Text,
     words: &[String],
-    number: &[u8],
-    what: &[u8],
+    names: &[Text],
+    reason: Option<Reason>,
+    event: Option<Event>,
 ) -> Result<(), Memory>
     ensures { OnOk result (text.new ≡ text.old
-        ++ trace_note (map string_bytes words.now) number.now what.now) }
+        ++ check_note (map string_bytes words.now) names.now reason event) }
 {
-    put_trace_head(text, word_at(words, 2), number)?;
-    text.extend(what)?;
-    text.extend(b"\n")
+    match reason {
+        None => Ok(()),
+        Some(reason) => put_reason_note(text, words, names, event, reason),
+    }
 }
 
-// Of a check, by the line that it put.
-fn put_check_note(text: &mut Text, words: &[String], line: &[u8]) -> Result<(), Memory>
-    ensures { OnOk result
-        (text.new ≡ text.old ++ check_note (map string_bytes words.now) (words_of line.now)) }
+#[tactic(auto, unfolding(crate::specs::Notes::no_event))]
+fn no_event() -> &'static [u8]
+    ensures { result.now ≡ no_event }
 {
-    if word_of(line, 0) != b"line".as_slice() {
-        return Ok(());
-    }
-    put_trace_note(
-        text,
-        words,
-        word_of(line, 1),
-        b"no event line; grep -E '^(begin|start|finish|tick|end) ' takes those of a run's text",
-    )
+    b"no event line; grep -E '^(begin|start|finish|tick|end) ' takes those of a run's text"
+}
+
+// Of a line of a trace that is no event.
+fn put_no_event(text: &mut Text, words: &[String], number: u64) -> Result<(), Memory>
+    ensures { OnOk result
+        (text.new ≡ text.old ++ trace_note (map string_bytes words.now) number no_event) }
+{
+    put_trace_head(text, words, number)?;
+    text.extend(no_event())?;
+    text.extend(b"\n")
 }
 
 // The two files of a filter, at the beginning of a note.
@@ -80,66 +81,49 @@ fn put_pair_head(text: &mut Text, a: &[u8], b: &[u8]) -> Result<(), Memory>
     put_shown_pair(text, b"pipegraph: ", a, b" and ", b, b": ")
 }
 
-#[tactic(auto, unfolding(crate::specs::Notes::clash_text))]
-fn put_clash_text(text: &mut Text, key: &[u8]) -> Result<(), Memory>
-    ensures { OnOk result (text.new ≡ text.old ++ clash_text key.now) }
+fn put_clash_text(text: &mut Text, key: Option<u32>) -> Result<(), Memory>
+    ensures { OnOk result (text.new ≡ text.old ++ clash_text key) }
 {
-    if key == b"type".as_slice() {
-        text.extend(b"objects of different types")
-    } else {
-        put_key_clash(text, key)
+    match key {
+        None => text.extend(b"objects of different types"),
+        Some(key) => put_key_clash(text, key),
     }
 }
 
-// Of a filter, by the line that it put.
-fn put_filter_note(text: &mut Text, words: &[String], line: &[u8]) -> Result<(), Memory>
+// Of a filter whose objects clash.
+fn put_clash_note(text: &mut Text, words: &[String], key: Option<u32>) -> Result<(), Memory>
     ensures { OnOk result
-        (text.new ≡ text.old ++ filter_note (map string_bytes words.now) (words_of line.now)) }
+        (text.new ≡ text.old ++ clash_note (map string_bytes words.now) key) }
 {
-    if word_of(line, 0) != b"clash".as_slice() {
-        return Ok(());
-    }
     put_pair_head(text, word_at(words, 1), word_at(words, 2))?;
-    put_clash_text(text, word_of(line, 1))?;
+    put_clash_text(text, key)?;
     text.extend(b"\n")
 }
 
-// Of any command, by what it stored and put.
-#[tactic(auto, unfolding(crate::specs::Notes::work_notes))]
-fn put_work_notes(
-    text: &mut Text,
-    words: &[String],
-    script: Option<&[u8]>,
-    work: &Work,
-) -> Result<(), Memory>
-    ensures { OnOk result (text.new ≡ text.old
-        ++ work_notes (map string_bytes words.now) (option_copied script.entry) work.now) }
-{
-    let name = word_at(words, 0);
-    if name == b"run".as_slice() || name == b"groups".as_slice() {
-        put_run_notes(text, words, script, work)
-    } else if name == b"check".as_slice() {
-        put_check_note(text, words, first_line(work.text.as_slice()))
-    } else if name == b"filter".as_slice() {
-        put_filter_note(text, words, first_line(work.text.as_slice()))
-    } else {
-        Ok(())
-    }
-}
-
-/// What is to be said of a command that was accepted, by its words, by the bytes of the script that
-/// it read, where there is one, and by what it stored and put.
+/// What is to be said of a command that was accepted, by its words, by what it found and by what it
+/// stored.
 pub fn put_notes(
     text: &mut Text,
     words: &[String],
-    script: Option<&[u8]>,
+    what: &What,
     work: &Option<Work>,
 ) -> Result<(), Memory>
     ensures { OnOk result (text.new ≡ text.old
-        ++ notes (map string_bytes words.now) (option_copied script.entry) work.now) }
+        ++ notes (map string_bytes words.now) what.now work.now) }
 {
-    match work {
-        None => Ok(()),
-        Some(work) => put_work_notes(text, words, script, work),
+    match what {
+        What::Nothing => Ok(()),
+        What::Run {
+            script,
+            plan,
+            peaks,
+        } => put_run_notes(text, words, script, plan, peaks.as_slice(), work),
+        What::Check {
+            names,
+            reason,
+            event,
+        } => put_check_note(text, words, names.as_slice(), *reason, *event),
+        What::NoEvent { number } => put_no_event(text, words, *number),
+        What::Clash { key } => put_clash_note(text, words, *key),
     }
 }

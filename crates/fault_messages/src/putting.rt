@@ -1,10 +1,8 @@
 //! Quoted words and numbers at the end of a text. After `Memory` the text has a part of it.
-ghost use Rattle.std.specs.Prelude.{◌≡◌, ◌++◌, decimal, map, string_bytes, OnOk};
-ghost use Rattle.fault_messages.specs.Places.{word, quoted};
+ghost use Rattle.std.specs.Prelude.{◌≡◌, ◌++◌, decimal, OnOk};
+ghost use Rattle.fault_messages.specs.Places.{quoted};
 ghost use Rattle.shown_words.specs.Escaping.{escaped};
-ghost use Rattle.fault_messages.specs.ReportedLines.{note_head};
 
-use crate::places::word_at;
 use pw_lists::{Memory, Text, append_decimal};
 use shown_words::put_escaped;
 
@@ -129,25 +127,6 @@ pub fn put_quoted_shown(
     text.extend(behind)
 }
 
-/// Words, a word as it is shown, further words, others as they are, and the last words.
-pub fn put_shown(
-    text: &mut Text,
-    before: &[u8],
-    word: &[u8],
-    between: &[u8],
-    others: &[u8],
-    behind: &[u8],
-) -> Result<(), Memory>
-    ensures { OnOk result (text.new ≡ text.old
-        ++ (before.now ++ (escaped word.now ++ (between.now ++ (others.now ++ behind.now))))) }
-{
-    text.extend(before)?;
-    put_escaped(text, word)?;
-    text.extend(between)?;
-    text.extend(others)?;
-    text.extend(behind)
-}
-
 /// Two words as they are shown, with words before, between and after them.
 pub fn put_shown_pair(
     text: &mut Text,
@@ -174,7 +153,7 @@ pub fn put_shown_number(
     before: &[u8],
     word: &[u8],
     between: &[u8],
-    n: u32,
+    n: u64,
     behind: &[u8],
 ) -> Result<(), Memory>
     ensures { OnOk result (text.new ≡ text.old
@@ -182,21 +161,7 @@ pub fn put_shown_number(
 {
     text.extend(before)?;
     put_escaped(text, word)?;
-    put_number(text, between, n, behind)
-}
-
-// The program's name and a line of a file.
-#[tactic(auto, unfolding(crate::specs::ReportedLines::note_head))]
-fn put_line_head(text: &mut Text, file: &[u8], number: u32) -> Result<(), Memory>
-    ensures { OnOk result (text.new ≡ text.old ++ note_head file.now number) }
-{
-    put_shown_number(text, b"pipegraph: ", file, b":", number, b": ")
-}
-
-/// The program's name and a line of the script of a command, at the beginning of a note.
-pub fn put_note_head(text: &mut Text, words: &[String], number: u32) -> Result<(), Memory>
-    ensures { OnOk result (text.new ≡ text.old
-        ++ note_head (word (map string_bytes words.now) 1) number) }
-{
-    put_line_head(text, word_at(words, 1), number)
+    text.extend(between)?;
+    append_decimal(text, n)?;
+    text.extend(behind)
 }

@@ -1,6 +1,5 @@
 //! Why the events of a trace are no legal history, in words.
-ghost use Rattle.std.specs.Prelude.{◌≡◌, ◌++◌, decimal, map, string_bytes, option_copied, OnOk};
-ghost use Rattle.fault_messages.specs.Notes.{trace_head};
+ghost use Rattle.std.specs.Prelude.{◌≡◌, ◌++◌, map, string_bytes, OnOk};
 ghost use Rattle.fault_messages.specs.ReasonNotes.{cause_text, an_event, missing_text, too_soon};
 ghost use Rattle.fault_messages.specs.ReasonNotes.{reason_said, reason_note};
 
@@ -9,21 +8,14 @@ use crate::cause_words::{
     put_only_begin, put_said, put_waits_for,
 };
 use crate::event_words::put_event;
-use crate::places::word_at;
-use crate::putting::put_shown_number;
+use crate::note_heads::put_trace_head;
 use pw_graph::Event;
 use pw_lists::{Memory, Text};
 use trace_check::{Cause, Reason};
 
 // What is wrong with an event.
-fn put_cause(
-    text: &mut Text,
-    script: Option<&[u8]>,
-    event: Event,
-    cause: Cause,
-) -> Result<(), Memory>
-    ensures { OnOk result
-        (text.new ≡ text.old ++ cause_text (option_copied script.entry) event cause) }
+fn put_cause(text: &mut Text, names: &[Text], event: Event, cause: Cause) -> Result<(), Memory>
+    ensures { OnOk result (text.new ≡ text.old ++ cause_text names.now event cause) }
 {
     match cause {
         Cause::AllEnded => {
@@ -34,17 +26,17 @@ fn put_cause(
             put_only_begin(text, cycle)
         }
         Cause::NotEnded { cycle } => put_not_ended(text, cycle),
-        Cause::NotFinished { cycle, node } => put_not_finished(text, script, cycle, node),
-        Cause::NotActive => put_node_said(text, script, event, b" is not active in cycle ", b""),
+        Cause::NotFinished { cycle, node } => put_not_finished(text, names, cycle, node),
+        Cause::NotActive => put_node_said(text, names, event, b" is not active in cycle ", b""),
         Cause::Started => {
-            put_node_said(text, script, event, b" has started in cycle ", b" already")
+            put_node_said(text, names, event, b" has started in cycle ", b" already")
         }
-        Cause::WaitsFor { node } => put_waits_for(text, script, event, node),
+        Cause::WaitsFor { node } => put_waits_for(text, names, event, node),
         Cause::NotStarted => {
-            put_node_said(text, script, event, b" has not started in cycle ", b"")
+            put_node_said(text, names, event, b" has not started in cycle ", b"")
         }
         Cause::Finished => {
-            put_node_said(text, script, event, b" has finished in cycle ", b" already")
+            put_node_said(text, names, event, b" has finished in cycle ", b" already")
         }
         Cause::Ticked => {
             put_said(
@@ -62,7 +54,7 @@ fn put_cause(
             cycle_of(event),
             b", and a tick comes before that",
         ),
-        Cause::NotLate { node } => put_not_late(text, script, node, cycle_of(event)),
+        Cause::NotLate { node } => put_not_late(text, names, node, cycle_of(event)),
     }
 }
 
@@ -74,14 +66,13 @@ fn an_event() -> &'static [u8]
 }
 
 // What is missing where no event comes.
-fn put_missing(text: &mut Text, script: Option<&[u8]>, cause: Cause) -> Result<(), Memory>
-    ensures { OnOk result
-        (text.new ≡ text.old ++ missing_text (option_copied script.entry) cause) }
+fn put_missing(text: &mut Text, names: &[Text], cause: Cause) -> Result<(), Memory>
+    ensures { OnOk result (text.new ≡ text.old ++ missing_text names.now cause) }
 {
     match cause {
         Cause::NotBegun { cycle } => put_not_begun(text, cycle),
         Cause::NotEnded { cycle } => put_not_ended(text, cycle),
-        Cause::NotFinished { cycle, node } => put_not_finished(text, script, cycle, node),
+        Cause::NotFinished { cycle, node } => put_not_finished(text, names, cycle, node),
         Cause::AllEnded => text.extend(an_event()),
         Cause::NotActive => text.extend(an_event()),
         Cause::Started => text.extend(an_event()),
@@ -96,56 +87,46 @@ fn put_missing(text: &mut Text, script: Option<&[u8]>, cause: Cause) -> Result<(
 
 // That the trace ends too soon.
 #[tactic(auto, unfolding(crate::specs::ReasonNotes::too_soon))]
-fn put_too_soon(text: &mut Text, script: Option<&[u8]>, cause: Cause) -> Result<(), Memory>
-    ensures { OnOk result (text.new ≡ text.old ++ too_soon (option_copied script.entry) cause) }
+fn put_too_soon(text: &mut Text, names: &[Text], cause: Cause) -> Result<(), Memory>
+    ensures { OnOk result (text.new ≡ text.old ++ too_soon names.now cause) }
 {
     text.extend(b"the trace ends too soon: ")?;
-    put_missing(text, script, cause)
+    put_missing(text, names, cause)
 }
 
 // The event and what is wrong with it, or that the trace ends too soon.
 fn put_reason(
     text: &mut Text,
-    script: Option<&[u8]>,
+    names: &[Text],
     event: Option<Event>,
     cause: Cause,
 ) -> Result<(), Memory>
-    ensures { OnOk result
-        (text.new ≡ text.old ++ reason_said (option_copied script.entry) event cause) }
+    ensures { OnOk result (text.new ≡ text.old ++ reason_said names.now event cause) }
 {
     match event {
-        None => put_too_soon(text, script, cause),
+        None => put_too_soon(text, names, cause),
         Some(event) => {
-            put_event(text, script, event)?;
+            put_event(text, names, event)?;
             text.extend(b": ")?;
-            put_cause(text, script, event, cause)
+            put_cause(text, names, event, cause)
         }
     }
 }
 
-// An event of a trace, given by its number, at the beginning of a note.
-#[tactic(auto, unfolding(crate::specs::Notes::trace_head))]
-fn put_event_head(text: &mut Text, trace: &[u8], at: u32) -> Result<(), Memory>
-    ensures { OnOk result (text.new ≡ text.old ++ trace_head trace.now (decimal at)) }
-{
-    put_shown_number(text, b"pipegraph: ", trace, b":", at, b": ")
-}
-
 /// The note on a trace whose events are no legal history, by the words of the command line, by the
-/// bytes of the script, where these are known, by the event at the place of the reason, where the
-/// trace has one there, and by the reason.
-#[tactic(auto, unfolding(crate::specs::Notes::trace_note))]
+/// names of the script's nodes, by the event at the place of the reason, where the trace has one
+/// there, and by the reason.
 pub fn put_reason_note(
     text: &mut Text,
     words: &[String],
-    script: Option<&[u8]>,
+    names: &[Text],
     event: Option<Event>,
     reason: Reason,
 ) -> Result<(), Memory>
     ensures { OnOk result (text.new ≡ text.old
-        ++ reason_note (map string_bytes words.now) (option_copied script.entry) event reason) }
+        ++ reason_note (map string_bytes words.now) names.now event reason) }
 {
-    put_event_head(text, word_at(words, 2), reason.at)?;
-    put_reason(text, script, event, reason.cause)?;
+    put_trace_head(text, words, u64::from(reason.at))?;
+    put_reason(text, names, event, reason.cause)?;
     text.extend(b"\n")
 }

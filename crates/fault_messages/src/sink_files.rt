@@ -4,8 +4,10 @@ ghost use Rattle.std.specs.Prelude.{◌≡◌, ◌++◌, map, string_bytes, OnOk
 ghost use Rattle.fault_messages.specs.SinkFiles.{writes, writes_later, is_written, is_written_later};
 ghost use Rattle.fault_messages.specs.SinkFiles.{overwritten, later_note, read_too, source_note};
 
-use crate::putting::{put_behind, put_note_head};
-use crate::such_lines::has_line;
+use crate::note_heads::put_note_head;
+use crate::putting::put_behind;
+use crate::script_lines::is_read;
+use graph_script::Line;
 use pw_lists::{Memory, Text};
 use run_results::Store;
 
@@ -96,14 +98,14 @@ fn put_read_too(text: &mut Text, file: &[u8]) -> Result<(), Memory>
 pub fn put_source_note(
     text: &mut Text,
     words: &[String],
-    script: &[u8],
+    lines: &[Line],
     number: u32,
     file: &[u8],
 ) -> Result<(), Memory>
     ensures { OnOk result (text.new ≡ text.old
-        ++ source_note (map string_bytes words.now) script.now number file.now) }
+        ++ source_note (map string_bytes words.now) lines.now number file.now) }
 {
-    if !has_line(script, b"source", 2, file) {
+    if !is_read(lines, file) {
         return Ok(());
     }
     put_note_head(text, words, number)?;

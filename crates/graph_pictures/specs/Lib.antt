@@ -13,6 +13,7 @@ pub mod Reading
 pub mod Refusals
 pub mod Rows
 pub mod ScriptSentences
+pub mod FileSentences
 pub mod Sentences
 pub mod StatusText
 pub mod Statuses

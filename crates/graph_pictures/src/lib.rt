@@ -11,6 +11,7 @@ mod bands;
 mod cycles;
 mod drawing;
 mod escaping;
+mod file_sentences;
 mod frame;
 mod graph_drawing;
 mod graph_links;

@@ -1,17 +1,18 @@
 //! Sentences for people.
 ghost use Rattle.std.specs.Prelude.{◌≡◌, ◌++◌, ◌∷◌, [], map, string_bytes, slice_index_or, IfOk, OnOk};
 ghost use Rattle.graph_pictures.specs.Template.{filled};
-ghost use Rattle.graph_pictures.specs.Sentences.{file_word, wav_said, bytes_said, usage_said, of_file, of_script, of_cycle, explained};
+ghost use Rattle.graph_pictures.specs.Sentences.{file_word, usage_said, of_file, of_script, of_cycle, of_refused, explained};
 ghost use Rattle.shown_words.specs.Escaping.{escaped};
 
+use crate::file_sentences::{bytes_said, wav_said};
 use crate::script_sentences::why_said;
 use crate::status::Status;
 use crate::template::fill;
 use graph_script::ScriptWhy;
-use pw_lists::{Items, Memory, Text, Which};
+use pw_lists::{Items, Memory, Text};
 use shown_words::put_escaped;
 use std::alloc::Global;
-use wav_files::WavFault;
+use system_files::{FileWhy, why_words};
 
 /// The place of a trace.
 const TRACE_PLACE: u32 = u32::MAX;
@@ -34,35 +35,6 @@ fn file_word(words: &[String], place: u32) -> &[u8]
         word_at(words, 2)
     } else {
         word_at(words, 1)
-    }
-}
-
-// What is wrong with a WAV file.
-fn wav_said(why: WavFault) -> &'static [u8]
-    ensures { result.now ≡ wav_said why }
-{
-    match why {
-        WavFault::NotRiff => b": this is no RIFF WAVE file\n",
-        WavFault::NoFmt => b": there is no fmt chunk before the samples\n",
-        WavFault::BadFmt => b": the fmt chunk is not sound\n",
-        WavFault::NotPcm16 => b": only PCM of 16 bits a sample is read\n",
-        WavFault::NoData => b": there is no data chunk\n",
-        WavFault::Truncated => b": a chunk passes the end of the file\n",
-        WavFault::Uneven => b": the samples are not whole frames\n",
-        WavFault::ChannelsOrRate => {
-            b": only 1 to 8 channels at 1 to 384000 frames a second are read\n"
-        }
-        WavFault::Memory => b": no memory was left\n",
-    }
-}
-
-// The bytes that a file may have.
-fn bytes_said(which: Which) -> &'static [u8]
-    ensures { result.now ≡ bytes_said which }
-{
-    match which {
-        Which::ScriptBytes => b": it has more than 1048576 bytes\n",
-        _ => b": it has more than 268435456 bytes\n",
     }
 }
 
@@ -142,6 +114,28 @@ fn put_of_cycle(text: &mut Text, words: &[String], word: u32) -> Result<(), Memo
     Ok(())
 }
 
+// A sentence about a file that the system refuses, and why, where that is known.
+fn put_of_refused(
+    text: &mut Text,
+    words: &[String],
+    place: u32,
+    reason: Option<FileWhy>,
+) -> Result<(), Memory>
+    ensures { OnOk result
+        (text.new ≡ text.old ++ of_refused (map string_bytes words.now) place reason) }
+{
+    put_of_file(
+        text,
+        b"cannot read ",
+        words,
+        place,
+        b": the system refuses it",
+    )?;
+    text.extend(why_words(reason))?;
+    text.extend(b"\n")?;
+    Ok(())
+}
+
 // The forms of the commands, the version, and where the manual is.
 fn usage_said() -> &'static [u8]
     ensures { result.now ≡ usage_said }
@@ -159,9 +153,10 @@ fn put_sentence(
     text: &mut Text,
     words: &[String],
     status: Status,
+    reason: Option<FileWhy>,
 ) -> Result<(), Memory>
     ensures { OnOk result
-        (text.new ≡ text.old ++ explained (map string_bytes words.now) status) }
+        (text.new ≡ text.old ++ explained (map string_bytes words.now) status reason) }
 {
     match status {
         Status::Ok => Ok(()),
@@ -184,13 +179,7 @@ fn put_sentence(
             place,
             b": there is no such file\n",
         ),
-        Status::ReadFault { place } => put_of_file(
-            text,
-            b"cannot read ",
-            words,
-            place,
-            b": the system refuses it\n",
-        ),
+        Status::ReadFault { place } => put_of_refused(text, words, place, reason),
         Status::WriteFault => {
             text.extend(b"pipegraph-pictures: the picture could not be written\n")
         }
@@ -201,13 +190,19 @@ fn put_sentence(
     }
 }
 
-/// The sentence that says why no picture was printed, by the words of the command line and
-/// by the status: nothing where all was done. Takes memory for the text.
-pub fn explain(alloc: Global, words: &[String], status: Status) -> Result<Text, Memory>
+/// The sentence that says why no picture was printed, by the words of the command line, by the
+/// status and by why the files say that their last load failed: nothing where all was done. Takes
+/// memory for the text.
+pub fn explain(
+    alloc: Global,
+    words: &[String],
+    status: Status,
+    reason: Option<FileWhy>,
+) -> Result<Text, Memory>
     ensures { IfOk result
-        (λ text. text ≡ explained (map string_bytes words.now) status) }
+        (λ text. text ≡ explained (map string_bytes words.now) status reason) }
 {
     let mut text = Items::new(alloc);
-    put_sentence(alloc, &mut text, words, status)?;
+    put_sentence(alloc, &mut text, words, status, reason)?;
     Ok(text)
 }

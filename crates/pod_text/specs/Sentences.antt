@@ -1,6 +1,8 @@
--- The sentence of a status, by the words of the command line and the line of the list that it
--- names. Source: this project's own.
+-- The sentence of a status, by the words of the command line, the line of the list that it names,
+-- and why the system refused a file. Source: this project's own.
 use Rattle.std.specs.Prelude.{ℕ, ◌==◌, ◌&&◌, Bool, nat_lt, if◌then◌else◌, List, [], ◌++◌, length, codes, bytes_eq, decimal, slice_index_or, Option, Some}
+use Rattle.system_files.specs.declared.why.FileWhy.{FileWhy}
+use Rattle.system_files.specs.Reasons.{why_said}
 use Rattle.pod_text.specs.declared.source.Source.{Source}
 use Rattle.pod_text.specs.declared.source.Source.TheVariants as Src
 use Rattle.pod_text.specs.declared.status.Status.{Status}
@@ -43,19 +45,25 @@ line_fault words number why line =
     at_word words 1 (codes "line ") ++ (decimal number ++ (codes ": " ++ (shown_line line
     ++ (codes ": " ++ why))))
 
-abbrev pub fault_text : Status → List (List ℕ) → List ℕ → List ℕ
-fault_text S.Ok words line = []
-fault_text (S.Usage i) words line = usage_fault words i
-fault_text (S.List number why) words line = line_fault words number (why_text why) line
-fault_text (S.Text number why) words line = line_fault words number (dump_why_text why) line
-fault_text S.TooLong words line = at_word words 1 (too_long_said (source_of (word words 0)))
-fault_text (S.Absent place) words line = at_word words place (codes "there is no such file")
-fault_text (S.ReadFault place) words line = at_word words place (codes "it cannot be read")
-fault_text (S.WriteFault place) words line = at_word words place (codes "it cannot be written")
-fault_text S.PutFault words line = codes "standard output cannot be written"
-fault_text (S.Limit place) words line =
+-- a file that the system refuses, and why, where that is known
+abbrev pub refused_text : List (List ℕ) → ℕ → List ℕ → Option FileWhy → List ℕ
+refused_text words place what reason = at_word words place what ++ why_said reason
+
+abbrev pub fault_text : Status → List (List ℕ) → List ℕ → Option FileWhy → List ℕ
+fault_text S.Ok words line reason = []
+fault_text (S.Usage i) words line reason = usage_fault words i
+fault_text (S.List number why) words line reason = line_fault words number (why_text why) line
+fault_text (S.Text number why) words line reason = line_fault words number (dump_why_text why) line
+fault_text S.TooLong words line reason = at_word words 1 (too_long_said (source_of (word words 0)))
+fault_text (S.Absent place) words line reason = at_word words place (codes "there is no such file")
+fault_text (S.ReadFault place) words line reason =
+    refused_text words place (codes "it cannot be read") reason
+fault_text (S.WriteFault place) words line reason =
+    refused_text words place (codes "it cannot be written") reason
+fault_text S.PutFault words line reason = codes "standard output cannot be written"
+fault_text (S.Limit place) words line reason =
     at_word words place (codes "it is longer than 33554432 bytes")
-fault_text S.Memory words line = codes "no memory was left"
+fault_text S.Memory words line reason = codes "no memory was left"
 
 -- what follows it
 abbrev pub after : Status → List ℕ
@@ -63,6 +71,7 @@ after (S.Usage i) = usage_text
 after status = []
 
 -- THE SENTENCE
-abbrev pub sentence_of : Status → List (List ℕ) → List ℕ → List ℕ
-sentence_of status words line =
-    (codes "pipegraph-pods: " ++ fault_text status words line) ++ (codes "\n" ++ after status)
+abbrev pub sentence_of : Status → List (List ℕ) → List ℕ → Option FileWhy → List ℕ
+sentence_of status words line reason =
+    (codes "pipegraph-pods: " ++ fault_text status words line reason)
+    ++ (codes "\n" ++ after status)

@@ -3,7 +3,7 @@ ghost use Rattle.std.specs.Prelude.{◌≡◌, ◌++◌, map, string_bytes, code
 ghost use Rattle.pod_text.specs.UsageText.{usage_text, version_said};
 ghost use Rattle.pod_text.specs.Sentences.{word, at_word, asks_version, word_fault};
 ghost use Rattle.pod_text.specs.Sentences.{usage_fault, too_long_said, line_fault};
-ghost use Rattle.pod_text.specs.Sentences.{fault_text, after, sentence_of};
+ghost use Rattle.pod_text.specs.Sentences.{refused_text, fault_text, after, sentence_of};
 
 use crate::line_faults::{dump_why_text, why_text};
 use crate::showing::{put_line, put_shown};
@@ -12,6 +12,7 @@ use crate::status::Status;
 use crate::words::source_of;
 use pw_lists::{Items, Memory, Text, append_decimal};
 use std::alloc::Global;
+use system_files::{FileWhy, why_words};
 
 /// The commands in words.
 pub(crate) fn usage_text() -> &'static [u8]
@@ -51,6 +52,21 @@ fn put_at(text: &mut Text, words: &[String], place: u32, what: &[u8]) -> Result<
     put_shown(text, word_at(words, place))?;
     text.extend(b": ")?;
     text.extend(what)
+}
+
+// What is wrong with a file that the system refuses, and why, where that is known.
+fn put_refused(
+    text: &mut Text,
+    words: &[String],
+    place: u32,
+    what: &[u8],
+    reason: Option<FileWhy>,
+) -> Result<(), Memory>
+    ensures { OnOk result (text.new ≡ text.old
+        ++ refused_text (map string_bytes words.now) place what.now reason) }
+{
+    put_at(text, words, place, what)?;
+    text.extend(why_words(reason))
 }
 
 // Whether the version is asked for, which is no command.
@@ -117,9 +133,15 @@ fn put_line_fault(
 }
 
 // What is wrong, without what is before and after it.
-fn put_fault(text: &mut Text, status: &Status, words: &[String], line: &[u8]) -> Result<(), Memory>
+fn put_fault(
+    text: &mut Text,
+    status: &Status,
+    words: &[String],
+    line: &[u8],
+    reason: Option<FileWhy>,
+) -> Result<(), Memory>
     ensures { OnOk result (text.new ≡ text.old
-        ++ fault_text status.now (map string_bytes words.now) line.now) }
+        ++ fault_text status.now (map string_bytes words.now) line.now reason) }
 {
     match *status {
         Status::Ok => Ok(()),
@@ -135,8 +157,12 @@ fn put_fault(text: &mut Text, status: &Status, words: &[String], line: &[u8]) ->
             put_at(text, words, 1, too_long_said(read))
         }
         Status::Absent { place } => put_at(text, words, place, b"there is no such file"),
-        Status::ReadFault { place } => put_at(text, words, place, b"it cannot be read"),
-        Status::WriteFault { place } => put_at(text, words, place, b"it cannot be written"),
+        Status::ReadFault { place } => {
+            put_refused(text, words, place, b"it cannot be read", reason)
+        }
+        Status::WriteFault { place } => {
+            put_refused(text, words, place, b"it cannot be written", reason)
+        }
         Status::PutFault => text.extend(b"standard output cannot be written"),
         Status::Limit { place } => put_at(text, words, place, b"it is longer than 33554432 bytes"),
         Status::Memory => text.extend(b"no memory was left"),
@@ -153,19 +179,20 @@ fn after(status: &Status) -> &'static [u8]
     }
 }
 
-/// The sentence of a status that is not Ok, by the words of the command line and the line of the
-/// list that it names.
+/// The sentence of a status that is not Ok, by the words of the command line, the line of the list
+/// that it names, and why the last load or store failed.
 pub(crate) fn sentence(
     alloc: Global,
     status: &Status,
     words: &[String],
     line: &[u8],
+    reason: Option<FileWhy>,
 ) -> Result<Text, Memory>
     ensures { IfOk result (λ text. text
-        ≡ sentence_of status.now (map string_bytes words.now) line.now) }
+        ≡ sentence_of status.now (map string_bytes words.now) line.now reason) }
 {
     let mut text = Items::from_slice(alloc, b"pipegraph-pods: ".as_slice())?;
-    put_fault(&mut text, status, words, line)?;
+    put_fault(&mut text, status, words, line, reason)?;
     text.extend(b"\n")?;
     text.extend(after(status))?;
     Ok(text)

@@ -13,6 +13,7 @@ use command_frame::run;
 use pw_lists::{Items, Memory, Text};
 use pw_outside::{Files, Sink};
 use std::alloc::Global;
+use system_files::{FileWhy, TellsWhy};
 
 /// What a call did: how it ended, and a sentence for people, or that memory was short for it. It is
 /// empty where all was done, and nowhere else.
@@ -23,12 +24,19 @@ pub struct Report {
 }
 
 // The sentence of how a call ended; none where all was done.
-fn explained(alloc: Global, words: &[String], status: Status, line: &[u8]) -> Result<Text, Memory>
-    ensures { IfOk result (λ text. text ≡ said_of status (map string_bytes words.now) line.now) }
+fn explained(
+    alloc: Global,
+    words: &[String],
+    status: Status,
+    line: &[u8],
+    reason: Option<FileWhy>,
+) -> Result<Text, Memory>
+    ensures { IfOk result (λ text. text
+        ≡ said_of status (map string_bytes words.now) line.now reason) }
 {
     match status {
         Status::Ok => Ok(Items::new(alloc)),
-        _ => sentence(alloc, &status, words, line),
+        _ => sentence(alloc, &status, words, line, reason),
     }
 }
 
@@ -39,8 +47,9 @@ fn explained(alloc: Global, words: &[String], status: Status, line: &[u8]) -> Re
 /// channels VALUES [mandatory KEY]` the object of an offer, `--help` puts the commands. Where a
 /// file is meant, `-` is standard input, which is loaded as `/dev/stdin`, or standard output. What
 /// is read is loaded once. Where the words or what is read are refused, nothing is stored and
-/// nothing put. Takes memory for what is read, for the value and for the bytes.
-pub fn make_pod<F: Files, O: Sink>(
+/// nothing put. The sentence has the reason that the files tell of a load or a store that failed.
+/// Takes memory for what is read, for the value and for the bytes.
+pub fn make_pod<F: Files + TellsWhy, O: Sink>(
     alloc: Global,
     words: &[String],
     files: &mut F,
@@ -50,7 +59,7 @@ pub fn make_pod<F: Files, O: Sink>(
     // they hold; and the sentence of the status.
     ensures told { IsReported (map string_bytes words.now)
         (outside F.Files O.Sink files.old out.old) (outside F.Files O.Sink files.new out.new)
-        result }
+        (F.why files.new) result }
 
     // Each fault has its cause outside, and Usage in the words, whether the files are reported or
     // not.
@@ -62,6 +71,6 @@ pub fn make_pod<F: Files, O: Sink>(
         line: Items::new(alloc),
     };
     let status = run(&mut pods, alloc, words, files, out);
-    let sentence = explained(alloc, words, status, pods.line.as_slice());
+    let sentence = explained(alloc, words, status, pods.line.as_slice(), files.why());
     Report { status, sentence }
 }

@@ -1,5 +1,5 @@
 -- How the program ends, by its words. Source: this project's own.
-use Rattle.std.specs.Prelude.{◌≡◌, ℕ, List, codes, Result}
+use Rattle.std.specs.Prelude.{◌≡◌, ℕ, List, codes, Option, Result}
 use Rattle.pw_outside.specs.declared.files.FileFail.{FileFail}
 use Rattle.pw_outside.specs.Causes.{HasCause}
 use Rattle.pw_outside.specs.Output.{Given, IsPut}
@@ -9,6 +9,7 @@ use Rattle.command_frame.specs.Keeping.{KeepsFiles}
 use Rattle.command_frame.specs.Outside.{Outside}
 use Rattle.system_files.specs.declared.unread.Unread.{Unread}
 use Rattle.system_files.specs.Unread.{unread_number, unread_message}
+use Rattle.system_files.specs.declared.why.FileWhy.{FileWhy}
 use Rattle.graph_pictures.specs.declared.status.Status.{Status}
 use Rattle.graph_pictures.specs.Answers.{IsAnswered}
 use Rattle.graph_pictures.specs.Sentences.{explained}
@@ -24,9 +25,10 @@ pub record IsSaid (text : List ℕ) (faults faults_now : ℕ) (given given_now :
   pub cause : HasCause faults faults_now said
 
 -- OF WORDS THAT WERE READ: the number is that of a status, which the output follows; what the files
--- hold stays; and the sentence of that status, if it has one, is put on the error output
-pub record HasEnded (words : List (List ℕ)) (before now : Outside) (faults faults_now : ℕ)
-    (given given_now : Given) (exit : Exit) : Type 0 where
+-- hold stays; and the sentence of that status, if it has one, with the reason that the files tell,
+-- is put on the error output
+pub record HasEnded (words : List (List ℕ)) (before now : Outside) (reason : Option FileWhy)
+    (faults faults_now : ℕ) (given given_now : Given) (exit : Exit) : Type 0 where
   pub status : Status
   pub code : exit.code ≡ status_number status
   pub told : IsTold statuses (IsAnswered words) before now status
@@ -34,7 +36,7 @@ pub record HasEnded (words : List (List ℕ)) (before now : Outside) (faults fau
   pub usage : IsUsage statuses (request_of words) status
   pub complete : IsComplete statuses (IsAnswered words) before now status
   pub keeps : KeepsFiles before now
-  pub said : IsSaid (explained words status) faults faults_now given given_now exit.said
+  pub said : IsSaid (explained words status reason) faults faults_now given given_now exit.said
 
 -- OF WORDS THAT WERE NOT READ: their sentence is put on the error output, and nothing else is done
 pub record HasRefused (unread : Unread) (before now : Outside) (faults faults_now : ℕ)

@@ -3,6 +3,8 @@
 
 mod program;
 #[cfg(test)]
+mod refused;
+#[cfg(test)]
 mod tests;
 #[cfg(test)]
 mod waves;

@@ -10,7 +10,7 @@ use graph_pictures::{explain, print_picture};
 use pw_lists::{Items, Memory, Text};
 use pw_outside::{FileFail, Files, Sink};
 use std::alloc::Global;
-use system_files::Unread;
+use system_files::{TellsWhy, Unread};
 
 /// The number that the program ends with, and what the put of its sentence answered: `Memory`
 /// where memory was short for it.
@@ -37,7 +37,7 @@ fn put_made<E: Sink>(
 }
 
 // Prints what words ask for, and puts the sentence of its status on the error output.
-fn run_words<F: Files, O: Sink, E: Sink>(
+fn run_words<F: Files + TellsWhy, O: Sink, E: Sink>(
     alloc: Global,
     words: &[String],
     files: &mut F,
@@ -45,11 +45,11 @@ fn run_words<F: Files, O: Sink, E: Sink>(
     errors: &mut E,
 ) -> Exit
     ensures { HasEnded (map string_bytes words.now) (outside F.Files O.Sink files.old out.old)
-        (outside F.Files O.Sink files.new out.new) (E.faults errors.old) (E.faults errors.new)
-        (E.given errors.old) (E.given errors.new) result }
+        (outside F.Files O.Sink files.new out.new) (F.why files.new) (E.faults errors.old)
+        (E.faults errors.new) (E.given errors.old) (E.given errors.new) result }
 {
     let status = print_picture(alloc, words, files, out);
-    let said = put_made(alloc, explain(alloc, words, status), errors);
+    let said = put_made(alloc, explain(alloc, words, status, files.why()), errors);
     Exit {
         code: status.number(),
         said,
@@ -58,7 +58,7 @@ fn run_words<F: Files, O: Sink, E: Sink>(
 
 /// Prints what the words of a command line ask for, or says on the error output why they could not
 /// be read.
-pub(crate) fn run_read<F: Files, O: Sink, E: Sink>(
+pub(crate) fn run_read<F: Files + TellsWhy, O: Sink, E: Sink>(
     alloc: Global,
     words: Result<Items<String>, Unread>,
     files: &mut F,
@@ -68,8 +68,8 @@ pub(crate) fn run_read<F: Files, O: Sink, E: Sink>(
     // The number is that of a status that the output follows, and its sentence is put.
     ensures ended { IfOk words (λ read. HasEnded (map string_bytes read)
         (outside F.Files O.Sink files.old out.old) (outside F.Files O.Sink files.new out.new)
-        (E.faults errors.old) (E.faults errors.new) (E.given errors.old) (E.given errors.new)
-        result) }
+        (F.why files.new) (E.faults errors.old) (E.faults errors.new) (E.given errors.old)
+        (E.given errors.new) result) }
     // Or of what could not be read: nothing else is done.
     ensures refused { IfErr words (λ unread. HasRefused unread
         (outside F.Files O.Sink files.old out.old) (outside F.Files O.Sink files.new out.new)

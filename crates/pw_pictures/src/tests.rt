@@ -429,7 +429,7 @@ fn expect_sentence<R: AllocGlobal + Abort>(
 ) -> Result<(), Memory> {
     let alloc = rt.alloc();
     let words = words_of(alloc, line)?;
-    let sentence = explain(alloc, words.as_slice(), status)?;
+    let sentence = explain(alloc, words.as_slice(), status, None)?;
     assert!(rt; sentence.as_slice() == wanted.as_bytes(), "{line}");
     Ok(())
 }
@@ -551,7 +551,8 @@ fn a_refused_line_of_a_script_says_why(rt: HostRuntime) -> Result<(), Fail> {
         wanted.extend(said.as_bytes())?;
         wanted.extend(b"\n")?;
         let words = words_of(alloc, "graph s")?;
-        let sentence = explain(alloc, words.as_slice(), Status::Script { line: 7, why })?;
+        let status = Status::Script { line: 7, why };
+        let sentence = explain(alloc, words.as_slice(), status, None)?;
         assert!(rt; sentence.as_slice() == wanted.as_slice(), "{said}");
     }
     Ok(())

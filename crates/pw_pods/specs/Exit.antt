@@ -1,5 +1,5 @@
 -- How the program ends, by its words. Source: this project's own.
-use Rattle.std.specs.Prelude.{◌≡◌, ℕ, List, codes, Result}
+use Rattle.std.specs.Prelude.{◌≡◌, ℕ, List, codes, Option, Result}
 use Rattle.pw_outside.specs.declared.files.FileFail.{FileFail}
 use Rattle.pw_outside.specs.Causes.{HasCause}
 use Rattle.pw_outside.specs.Output.{Given, IsPut}
@@ -8,6 +8,7 @@ use Rattle.command_frame.specs.Headline.{IsTold, IsComplete}
 use Rattle.command_frame.specs.Outside.{Outside}
 use Rattle.system_files.specs.declared.unread.Unread.{Unread}
 use Rattle.system_files.specs.Unread.{unread_number, unread_message}
+use Rattle.system_files.specs.declared.why.FileWhy.{FileWhy}
 use Rattle.pod_text.specs.declared.status.Status.{Status}
 use Rattle.pod_text.specs.Answers.{IsAnswered}
 use Rattle.pod_text.specs.Reports.{said_of}
@@ -21,10 +22,10 @@ pub record IsSaid (text : List ℕ) (faults faults_now : ℕ) (given given_now :
   pub put : IsPut text given given_now said
   pub cause : HasCause faults faults_now said
 
--- THE NUMBER is that of a status, which files and output follow, and the sentence of that status is
--- put on the error output
-pub record HasEnded (words : List (List ℕ)) (before now : Outside) (faults faults_now : ℕ)
-    (given given_now : Given) (exit : Exit) : Type 0 where
+-- THE NUMBER is that of a status, which files and output follow, and the sentence of that status,
+-- with the reason that the files tell, is put on the error output
+pub record HasEnded (words : List (List ℕ)) (before now : Outside) (reason : Option FileWhy)
+    (faults faults_now : ℕ) (given given_now : Given) (exit : Exit) : Type 0 where
   pub status : Status
   pub line : List ℕ
   pub number : exit.number ≡ status_number status
@@ -32,7 +33,7 @@ pub record HasEnded (words : List (List ℕ)) (before now : Outside) (faults fau
   pub cause : Caused statuses before now status
   pub usage : IsUsage statuses (request_of words) status
   pub complete : IsComplete statuses (IsAnswered words line) before now status
-  pub said : IsSaid (said_of status words line) faults faults_now given given_now exit.said
+  pub said : IsSaid (said_of status words line reason) faults faults_now given given_now exit.said
 
 -- of words that could not be read the sentence is put on the error output, and nothing else is done
 pub record HasRefused (unread : Unread) (before now : Outside) (faults faults_now : ℕ)

@@ -10,7 +10,7 @@ use pod_text::make_pod;
 use pw_lists::{Items, Memory, Text};
 use pw_outside::{FileFail, Files, Sink};
 use std::alloc::Global;
-use system_files::Unread;
+use system_files::{TellsWhy, Unread};
 
 /// How the program ends: with this number, and what the put of its sentence answered, `Memory` also
 /// where there was no memory to make it.
@@ -37,7 +37,7 @@ fn put_made<E: Sink>(
 }
 
 // Makes what words ask for, and puts the sentence of its status on the error output.
-fn run_words<F: Files, O: Sink, E: Sink>(
+fn run_words<F: Files + TellsWhy, O: Sink, E: Sink>(
     alloc: Global,
     words: &[String],
     files: &mut F,
@@ -45,8 +45,8 @@ fn run_words<F: Files, O: Sink, E: Sink>(
     errors: &mut E,
 ) -> Exit
     ensures { HasEnded (map string_bytes words.now) (outside F.Files O.Sink files.old out.old)
-        (outside F.Files O.Sink files.new out.new) (E.faults errors.old) (E.faults errors.new)
-        (E.given errors.old) (E.given errors.new) result }
+        (outside F.Files O.Sink files.new out.new) (F.why files.new) (E.faults errors.old)
+        (E.faults errors.new) (E.given errors.old) (E.given errors.new) result }
 {
     let report = make_pod(alloc, words, files, out);
     Exit {
@@ -57,7 +57,7 @@ fn run_words<F: Files, O: Sink, E: Sink>(
 
 /// Makes what the words of a command line ask for, or says on the error output why they could not
 /// be read.
-pub(crate) fn run_read<F: Files, O: Sink, E: Sink>(
+pub(crate) fn run_read<F: Files + TellsWhy, O: Sink, E: Sink>(
     alloc: Global,
     words: Result<Items<String>, Unread>,
     files: &mut F,
@@ -67,8 +67,8 @@ pub(crate) fn run_read<F: Files, O: Sink, E: Sink>(
     // The number is that of a status that files and output follow, and its sentence is put.
     ensures ended { IfOk words (λ read. HasEnded (map string_bytes read)
         (outside F.Files O.Sink files.old out.old) (outside F.Files O.Sink files.new out.new)
-        (E.faults errors.old) (E.faults errors.new) (E.given errors.old) (E.given errors.new)
-        result) }
+        (F.why files.new) (E.faults errors.old) (E.faults errors.new) (E.given errors.old)
+        (E.given errors.new) result) }
     // Or of what could not be read: nothing else is done.
     ensures refused { IfErr words (λ unread. HasRefused unread
         (outside F.Files O.Sink files.old out.old) (outside F.Files O.Sink files.new out.new)

@@ -16,7 +16,7 @@ fn text(alloc: Global, text: &str) -> Result<Text, Memory> {
 }
 
 // The words of a line, which blanks part.
-fn words_of(alloc: Global, line: &str) -> Result<Items<String>, Memory> {
+pub(crate) fn words_of(alloc: Global, line: &str) -> Result<Items<String>, Memory> {
     let mut words = Items::new(alloc);
     for word in line.split_whitespace() {
         let word = String::from_str(alloc, word)?;

@@ -22,15 +22,16 @@ use Rattle.pw_top.specs.declared.usage.CommandLine.{CommandLine}
 use Rattle.pw_top.specs.declared.usage.CommandLine.TheVariants as C
 use Rattle.command_frame.specs.declared.work.Work.{Work}
 use Rattle.pw_top.specs.Answer.{Expected}
-use Rattle.pw_top.specs.Allowed.{IsLoad}
+use Rattle.pw_top.specs.Allowed.{IsLoad, Gives}
 use Rattle.run_results.specs.Places.{trace_place}
 use Rattle.pw_top.specs.Check.{trace_bytes_limit}
+use Rattle.pw_top.specs.CheckFound.{IsFoundIn, IsFoundUnder, IsFoundByCheck}
 use Rattle.pw_top.specs.Found.{IsFound, found_after}
 use Rattle.pw_top.specs.ScriptFile.{PlansFile}
 use Rattle.pw_top.specs.ScriptFound.{end_of, EndsAtLoad, IsScriptUnder, IsScriptBy, IsScriptOf}
 use Rattle.pw_top.specs.StatusLine.{has_line}
 use Rattle.pw_top.specs.Usage.{Words, IsRead, command_of}
-use Rattle.pw_top.specs.WhatFound.{Gives, IsFoundIn, IsFoundUnder, IsFoundByCheck, IsWhatBy, IsWhatOf, IsWhat}
+use Rattle.pw_top.specs.WhatFound.{IsWhatBy, IsWhatOf, IsWhat}
 use Rattle.pw_top.specs.WorkFound.{IsDone, IsWorkFound, work_in}
 use Rattle.pw_top.specs.working.Delivery.{Delivered, LineEnds}
 use Rattle.pw_top.specs.working.Ending.{Ends, IsRefusal, PrepareCause, IsDeliverable}
@@ -51,12 +52,12 @@ module _ (names : List (List ℕ)) (shapes : List Shape) (bytes : List ℕ) wher
   seen_finding (Line number) h = h
   seen_finding (Events reason event) h = (h.0, h.1, reason_verdict shapes h.0 reason h.2)
 
-  pub seen_found : (seen : Seen) → IsSeenOn names shapes bytes seen → IsFoundIn names shapes bytes (what_by seen)
-  seen_found (Line number) h = (number, h)
-  seen_found (Events reason event) h = h
+  pub seen_found : (seen : Seen) → IsSeenOn names shapes bytes seen → IsFoundIn names shapes bytes (what_by names seen)
+  seen_found (Line number) h = h
+  seen_found (Events reason event) h = (refl, h.0, h.1, h.2, h.3)
 
 -- what a part gave
-part_gives_it : {T : Type 0} (P : Expected T → Type 0) (x : T) → Ends P (Ok x) → Gives P x
+pub part_gives_it : {T : Type 0} (P : Expected T → Type 0) (x : T) → Ends P (Ok x) → Gives P x
 part_gives_it P x e = record { part = e.answer; allowed = e.allowed; gives = outcome_is e.answer x e.ends }
 
 -- of a result, whatever it is
@@ -64,7 +65,7 @@ pub ok_always : {T E : Type 0} (r : Result T E) (P : Type 0) → P → OnOk r P
 ok_always (Ok x) P p = p
 ok_always (Err e) P p = tt
 
-ok_then : {T E : Type 0} (r : Result T E) (P Q : Type 0) → (P → Q) → OnOk r P → OnOk r Q
+pub ok_then : {T E : Type 0} (r : Result T E) (P Q : Type 0) → (P → Q) → OnOk r P → OnOk r Q
 ok_then (Ok x) P Q f h = f h
 ok_then (Err e) P Q f h = h
 

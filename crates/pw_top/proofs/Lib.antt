@@ -4,12 +4,14 @@ pub mod AllowedLemmas
 pub mod AutomateLemmas
 pub mod CommandLineLemmas
 pub mod FormatFileLemmas
+pub mod FilterFoundLemmas
 pub mod FoundLemmas
 pub mod GroupsLemmas
 pub mod HeadlineLemmas
 pub mod JoinedLemmas
 pub mod LoadsLemmas
 pub mod OneAnswerLemmas
+pub mod OneFilterFoundLemmas
 pub mod OneFoundLemmas
 pub mod OneGroupsLemmas
 pub mod OneLineLemmas
@@ -21,6 +23,7 @@ pub mod OneSoakLemmas
 pub mod PieceLemmas
 pub mod PlanWorkLemmas
 pub mod PlayingLemmas
+pub mod RunFoundLemmas
 pub mod PrintableLemmas
 pub mod PodFileLemmas
 pub mod StatusLineLemmas

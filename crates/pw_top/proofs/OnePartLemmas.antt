@@ -14,7 +14,7 @@ use Rattle.run_results.specs.declared.status.Status.{Status}
 use Rattle.run_results.specs.declared.status.Status.TheVariants as S
 use Rattle.run_results.specs.declared.status.PodWhy.TheVariants as P
 use Rattle.pw_top.specs.Answer.{Expected, ended, gone_on, load_outcome}
-use Rattle.pw_top.specs.Allowed.{Part, IsLoad, Binds}
+use Rattle.pw_top.specs.Allowed.{Part, IsLoad, Binds, Gives}
 use Rattle.pw_top.specs.Allowed.Binds.{short, stops, goes}
 use Rattle.pw_top.specs.PodFile.{pod_refusal, HoldsPod, IsReadFrom, HoldsAs}
 use Rattle.pw_top.specs.FormatFile.{IsFormatIn, HoldsFormat}
@@ -52,6 +52,14 @@ value_or d (Err e) = d
 
 pub ok_is : {T E : Type 0} (x y : T) (r : Result T E) → r ≡ Ok x → r ≡ Ok y → x ≡ y
 ok_is x y r h k = ap (value_or x) (sym h ∙ k)
+
+-- a part with one answer gives one value
+pub gave_one : {T : Type 0} (P : Expected T → Type 0) → HasOne P → (x y : T) → Gives P x → Gives P y → x ≡ y
+gave_one P one x y g h =
+    let gx = g.gives in
+    let hy = h.gives in
+    let same = one.one g.part h.part g.allowed h.allowed (λ m. cc) (λ m. cc) in
+    ok_is x y h.part.outcome (sym (ap (λ e. e.outcome) same) ∙ gx) hy
 
 -- what comes next after one part, of two answers: they are in a relation where what came next is
 module _ {T U : Type 0} (P : Expected T → Type 0) (next other : T → Expected U → Type 0) (R : Expected U → Expected U → Type 0)

@@ -33,3 +33,9 @@ pub data Binds {T U : Type 0} (P : Expected T → Type 0) (next : T → Expected
   goes : (first : Expected T) (x : T) (rest : Expected U) → P first → first.outcome ≡ Ok x
       → next x rest
       → e ≡ gone_on first.loads rest → Binds P next e
+
+-- a part that is allowed gives this
+pub record Gives {T : Type 0} (P : Expected T → Type 0) (x : T) : Type 0 where
+  pub part : Expected T
+  pub allowed : P part
+  pub gives : part.outcome ≡ Ok x

@@ -2,11 +2,13 @@ pub mod Allowed
 pub mod Answer
 pub mod Automate
 pub mod Check
+pub mod CheckFound
 pub mod CommandLine
 pub mod Crews
 pub mod Dump
 pub mod FaultCauses
 pub mod Filter
+pub mod FilterFound
 pub mod Following
 pub mod FormatFile
 pub mod Found
@@ -25,6 +27,7 @@ pub mod Playing
 pub mod PodFile
 pub mod Refusals
 pub mod Run
+pub mod RunFound
 pub mod ScriptFile
 pub mod ScriptFound
 pub mod SinkStores

@@ -1,73 +1,32 @@
--- What a command found: of `check` the reason for which the events of the trace are no legal
--- history of the script's plan, and the event there.
--- Source: this project's own; reasons are those of `trace_check`.
-use Rattle.std.specs.Prelude.{◌≡◌, ℕ, ◌-◌, List, map, slice_get, Option, Some, None, Result, Ok, Err, IsSome}
-use Rattle.std.specs.List.{AllZip}
-use Rattle.pw_lists.specs.declared.limit.Which.TheVariants as L
-use Rattle.pw_graph.specs.declared.event.Event.{Event}
-use Rattle.pw_graph.specs.declared.shape.Shape.{Shape}
-use Rattle.pw_outside.specs.Files.{Names, Held, names_in}
-use Rattle.cycle_trace.specs.TraceReading.{trace_lines, IsLineOf, IsFirstFault}
-use Rattle.trace_check.specs.declared.reasons.Reason.{Reason}
-use Rattle.trace_check.specs.Reasons.{IsReasonOn}
+-- What a call found beyond its report, by its command and its status.
+-- Source: this project's own.
+use Rattle.std.specs.Prelude.{◌≡◌, Result, Ok, Err, IsSome}
+use Rattle.pw_outside.specs.Files.{Held, names_in}
 use Rattle.run_results.specs.declared.found.What.{What}
-use Rattle.run_results.specs.declared.found.What.TheVariants.{Nothing, Check}
-use Rattle.pw_top.specs.declared.planned.Planned.{Planned}
+use Rattle.run_results.specs.declared.found.What.TheVariants.{Nothing}
 use Rattle.run_results.specs.declared.status.Status.{Status}
 use Rattle.run_results.specs.declared.status.Status.TheVariants as S
 use Rattle.pw_top.specs.declared.usage.CommandLine.{CommandLine}
 use Rattle.pw_top.specs.declared.usage.CommandLine.TheVariants as C
-use Rattle.pw_top.specs.Answer.{Expected}
-use Rattle.pw_top.specs.Allowed.{IsLoad}
-use Rattle.run_results.specs.Places.{trace_place}
-use Rattle.pw_top.specs.Check.{trace_bytes_limit}
-use Rattle.pw_top.specs.ScriptFile.{PlansFile}
+use Rattle.pw_top.specs.CheckFound.{IsFoundByCheck}
+use Rattle.pw_top.specs.FilterFound.{IsFoundByFilter}
+use Rattle.pw_top.specs.RunFound.{IsFoundByRun, IsFoundByGroups}
 use Rattle.pw_top.specs.Usage.{Words, command_of}
 
--- a part that is allowed gives this
-pub record Gives {T : Type 0} (P : Expected T → Type 0) (x : T) : Type 0 where
-  pub part : Expected T
-  pub allowed : P part
-  pub gives : part.outcome ≡ Ok x
-
--- the event at the place of a reason
-abbrev pub event_at : Option Reason → List Event → Option Event
-event_at None events = None
-event_at (Some r) events = slice_get events (r.at - 1)
-
--- IN A TRACE, by the names of nodes and the shapes of epochs, the reason of the events that its
--- lines are of, and the event there; nothing where a line is of no event
-abbrev pub IsFoundIn : List (List ℕ) → List Shape → List ℕ → What → Type 0
-IsFoundIn names shapes bytes Nothing = (number : ℕ)
-    × IsFirstFault names (trace_lines bytes) number
-IsFoundIn names shapes bytes (Check reason event) = (events : List Event)
-    × AllZip (IsLineOf names) (trace_lines bytes) events × IsReasonOn shapes events reason
-    × (event ≡ event_at reason events)
-
--- in the trace that is stored under this name, by a plan
-pub record IsFoundUnder (names : Names) (trace : List ℕ) (p : Planned) (what : What)
-    : Type 0 where
-  pub bytes : List ℕ
-  pub load : Gives (IsLoad names trace_place trace trace_bytes_limit L.TraceBytes) bytes
-  pub found : IsFoundIn p.script.names (map (λ e. e.shape) p.plan.epochs) bytes what
-
--- OF `check`: in its trace, by the plan of its script
-pub record IsFoundByCheck (names : Names) (script trace : List ℕ) (what : What) : Type 0 where
-  pub planned : Planned
-  pub plan : Gives (PlansFile names script) planned
-  pub found : IsFoundUnder names trace planned what
-
--- by a command that was done, where the files report what they hold; other commands find nothing
+-- BY A COMMAND that was done, where the files report what they hold; other commands find nothing
 abbrev pub IsWhatBy : CommandLine → Held → What → Type 0
+IsWhatBy (C.Run c) held what = IsSome held → IsFoundByRun (names_in held) c.script what
+IsWhatBy (C.Groups c) held what = IsSome held → IsFoundByGroups (names_in held) c.script what
 IsWhatBy (C.Check c) held what = IsSome held
     → IsFoundByCheck (names_in held) c.script c.trace what
+IsWhatBy (C.Filter c) held what = IsSome held → IsFoundByFilter (names_in held) c.a c.b what
 IsWhatBy command held what = what ≡ Nothing
 
 abbrev pub IsWhatOf : Result CommandLine Status → Held → What → Type 0
 IsWhatOf (Ok command) held what = IsWhatBy command held what
 IsWhatOf (Err status) held what = what ≡ Nothing
 
--- by the status: nothing where not all was done
+-- BY THE STATUS: nothing where not all was done
 abbrev pub IsWhat : Words → Held → Status → What → Type 0
 IsWhat words held S.Ok what = IsWhatOf (command_of words) held what
 IsWhat words held status what = what ≡ Nothing

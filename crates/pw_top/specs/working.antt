@@ -2,5 +2,6 @@
 -- Source: this project's own.
 pub mod Delivery
 pub mod Ending
+pub mod Filtering
 pub mod Preparing
 pub mod Seen

@@ -1,9 +1,10 @@
 //! What the run of a plan stores and prints.
 
-ghost use Rattle.std.specs.Prelude.{◌≡◌, map, option_copied, IfOk, All};
+ghost use Rattle.std.specs.Prelude.{◌≡◌, map, option_copied, IfOk, OnOk, All};
 ghost use Rattle.pw_graph.specs.History.{IsLegalHistory};
 ghost use Rattle.graph_script.specs.Kinds.{made_by};
 ghost use Rattle.pw_top.specs.PlannedWork.{plan_work, if_traced, rendered, IsPlayable};
+ghost use Rattle.pw_top.specs.RunFound.{plan_found};
 ghost use Rattle.pw_top.specs.SinkStores.{makes_sink, sink_line_of, sink_file, sink_store};
 
 use crate::planned::Planned;
@@ -11,7 +12,7 @@ use cycle_trace::run_text;
 use graph_script::{Command, Line};
 use pw_graph::Event;
 use pw_lists::{Items, Memory, Text};
-use run_results::{Content, Store, Work};
+use run_results::{Content, Store, What, Work};
 use std::alloc::Global;
 use wav_files::{Kept, Outcome};
 
@@ -85,20 +86,30 @@ fn if_traced(trace: bool, history: &Items<Event>) -> Option<&Items<Event>>
     if trace { Some(history) } else { None }
 }
 
-/// The stores and the text of a run: its sinks' files, and with `trace` its events.
+/// The stores and the text of a run: its sinks' files, and with `trace` its events. The script, its
+/// plan and the peaks are left in `what`.
 pub fn plan_work(
     alloc: Global,
-    planned: &Planned,
+    planned: Planned,
     trace: bool,
     history: &Items<Event>,
     outcome: Outcome,
+    what: &mut What,
 ) -> Result<Work, Memory>
-    requires planned { IsPlayable planned.now }
-    requires legal { IsLegalHistory (map (λ e. e.shape) planned.now.plan.epochs) history.now }
-    requires outcome { outcome ≡ rendered planned.now.plan planned.now.waves }
-    ensures { IfOk result (λ work. work ≡ plan_work planned.now trace history.now) }
+    requires planned { IsPlayable planned }
+    requires legal { IsLegalHistory (map (λ e. e.shape) planned.plan.epochs) history.now }
+    requires outcome { outcome ≡ rendered planned.plan planned.waves }
+    ensures work { IfOk result (λ work. work ≡ plan_work planned trace history.now) }
+    ensures what { OnOk result (what.new ≡ plan_found planned) }
 {
-    let text = run_text(alloc, &planned.plan, if_traced(trace, history), &outcome)?;
-    let stores = sink_stores(alloc, planned.script.lines.as_slice(), outcome.sinks)?;
+    let Planned { script, plan, .. } = planned;
+    let text = run_text(alloc, &plan, if_traced(trace, history), &outcome)?;
+    let Outcome { sinks, peaks, .. } = outcome;
+    let stores = sink_stores(alloc, script.lines.as_slice(), sinks)?;
+    *what = What::Run {
+        script,
+        plan,
+        peaks,
+    };
     Ok(Work { stores, text })
 }

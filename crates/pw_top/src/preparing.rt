@@ -1,4 +1,5 @@
-//! A command that runs nothing, up to its stores: what it loads, and what it gives then.
+//! A command that runs nothing and finds nothing, up to its stores: what it loads, and what it
+//! gives then.
 ghost use Rattle.pw_top.specs.working.Ending.{CommandCause, IsDeliverable};
 ghost use Rattle.pw_top.specs.working.Preparing.{LoadsOnly, Tells};
 
@@ -6,7 +7,8 @@ use pw_outside::Files;
 use run_results::{Status, Work};
 use std::alloc::Global;
 
-/// A command that runs nothing. It stores and puts nothing either.
+/// A command that runs nothing and finds nothing beside its report. It stores and puts nothing
+/// either.
 pub trait Prepare {
     ghost use Rattle.pw_outside.specs.Files.{Names};
     ghost use Rattle.pw_top.specs.Answer.{Answer};

@@ -56,16 +56,14 @@ impl CommandLine {
     {
         match self {
             CommandLine::Run(command) => {
-                command.play(rt, alloc, files, gate, ticker, played, &mut found.script)
+                command.play(rt, alloc, files, gate, ticker, played, found)
             }
             CommandLine::Dump(command) => command.prepare(alloc, files),
-            CommandLine::Filter(command) => command.prepare(alloc, files),
+            CommandLine::Filter(command) => command.find(alloc, files, &mut found.what),
             CommandLine::Automate(command) => command.prepare(alloc, files),
             CommandLine::Check(command) => command.find(alloc, files, found),
             CommandLine::Soak(command) => command.play(rt, alloc, gate, ticker, played),
-            CommandLine::Groups(command) => {
-                command.play(rt, alloc, files, gate, played, &mut found.script)
-            }
+            CommandLine::Groups(command) => command.play(rt, alloc, files, gate, played, found),
         }
     }
 }
@@ -153,10 +151,11 @@ pub struct Ran {
 
 /// Does what the words of a command line ask for, as `run_words` does, and answers besides what it
 /// found: the bytes of the script that `run`, `check` and `groups` read, whatever was wrong with
-/// them; where all was done, what was stored and put, and of `check` the reason for which the
-/// events of the trace are no legal history of the script's plan. Nothing is loaded or made for it:
-/// the script, the waves and the text are those of the run, and are held until the answer is
-/// dropped. A trace is followed once. It may wait for the loops.
+/// them; where all was done, what was stored and put, and besides of `run` and `groups` the script,
+/// its plan and the peaks, of `check` the reason for which the events of the trace are no legal
+/// history of the script's plan, or its first line of no event, and of `filter` the key of a clash.
+/// Nothing is loaded, made or copied for it: script, plan, waves and text are those of the run, and
+/// are held until the answer is dropped. A trace is followed once. It may wait for the loops.
 pub fn run_words_with<R: Threads + Wait + Sync, F: Files, O: Sink, G: Gate + Sync, K: Ticker>(
     rt: &R,
     alloc: Global,

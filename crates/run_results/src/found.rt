@@ -4,6 +4,7 @@ use command_frame::Work;
 use graph_script::Script;
 use pw_graph::{Event, Plan};
 use pw_lists::{Items, Text};
+use refused_links::RefusedLink;
 use trace_check::Reason;
 use wav_files::Peak;
 
@@ -25,11 +26,14 @@ pub enum What {
     Nothing,
     /// Of `run` and of `groups`: the script that was run, its plan, whose `lines` say what each
     /// `link` and `unlink` line did, and the peaks of the meters that have a format at its end,
-    /// ascending by node. The plan of `groups` has all nodes and lines, and no epochs.
+    /// ascending by node. `refused` has, of `run`, each `link` line that found no common format,
+    /// with what both ports admit at the key; of `groups` nothing. The plan of `groups` has all
+    /// nodes and lines, and no epochs.
     Run {
         script: Script,
         plan: Plan,
         peaks: Items<Peak>,
+        refused: Items<RefusedLink>,
     },
     /// Of `check`: the names of the script's nodes, by number; why the events of the trace are no
     /// legal history of its plan, and the event at that place, where the trace does not end before
@@ -40,8 +44,12 @@ pub enum What {
         event: Option<Event>,
     },
     /// Of `check`: the first line of the trace that is of no event, counted from 1.
-    NoEvent { number: u64 },
+    NoEvent {
+        number: u64,
+    },
     /// Of `filter`: the first key under which the two objects have nothing in common; `None` where
     /// they are of different types.
-    Clash { key: Option<u32> },
+    Clash {
+        key: Option<u32>,
+    },
 }

@@ -1,4 +1,5 @@
 pub mod Disks
 pub mod KnownFiles
+pub mod Reasons
 pub mod Unread
 pub mod working

@@ -16,4 +16,4 @@ pub use disk::{Disk, SystemDisk};
 pub use disk_files::DiskFiles;
 pub use std_sink::StdSink;
 pub use unread::Unread;
-pub use why::{FileWhy, TellsWhy};
+pub use why::{FileWhy, TellsWhy, why_words};

@@ -2,6 +2,7 @@
 ghost use Rattle.std.specs.Prelude.{◌≡◌};
 ghost use Rattle.std.specs.IoError.{error_kind};
 ghost use Rattle.pw_outside.specs.declared.files.FileFail.TheVariants as F;
+ghost use Rattle.system_files.specs.Reasons.{why_said};
 ghost use Rattle.system_files.specs.working.FileWhys.{why_of};
 
 use pw_outside::{FileFail, MemFiles, SureFiles};
@@ -19,6 +20,19 @@ pub enum FileWhy {
     Permission,
     /// No room is left where it would be.
     Full,
+}
+
+/// The reason in words, behind a sentence that says what failed; nothing where it is not known.
+pub fn why_words(why: Option<FileWhy>) -> &'static [u8]
+    ensures { result.now ≡ why_said why }
+{
+    match why {
+        None => b"",
+        Some(FileWhy::NoFolder) => b": there is no such folder",
+        Some(FileWhy::Folder) => b": it is a folder",
+        Some(FileWhy::Permission) => b": the system does not permit it",
+        Some(FileWhy::Full) => b": no room is left",
+    }
 }
 
 /// Files that say why their last load or store failed.

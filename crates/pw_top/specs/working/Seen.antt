@@ -15,8 +15,8 @@ use Rattle.trace_check.specs.Reasons.{IsReasonOn}
 use Rattle.pw_top.specs.declared.commands.check_traces.Seen.{Seen}
 use Rattle.pw_top.specs.declared.commands.check_traces.Seen.TheVariants.{Line, Events}
 use Rattle.run_results.specs.declared.found.What.{What}
-use Rattle.run_results.specs.declared.found.What.TheVariants.{Nothing, Check}
-use Rattle.pw_top.specs.WhatFound.{event_at}
+use Rattle.run_results.specs.declared.found.What.TheVariants.{Check, NoEvent}
+use Rattle.pw_top.specs.CheckFound.{event_at}
 
 -- SEEN on a trace, by the names of nodes and the shapes of epochs
 abbrev pub IsSeenOn : List (List ℕ) → List Shape → List ℕ → Seen → Type 0
@@ -34,6 +34,7 @@ abbrev pub finding_by : Seen → Finding
 finding_by (Line number) = F.Line number
 finding_by (Events reason event) = F.Events (verdict_by reason)
 
-abbrev pub what_by : Seen → What
-what_by (Line number) = Nothing
-what_by (Events reason event) = Check reason event
+-- by the names of nodes
+abbrev pub what_by : List (List ℕ) → Seen → What
+what_by names (Line number) = NoEvent number
+what_by names (Events reason event) = Check names reason event

@@ -8,8 +8,8 @@ ghost use Rattle.pw_graph.specs.SoundPlan.{IsSoundPlan};
 ghost use Rattle.pw_outside.specs.Files.{names_in};
 ghost use Rattle.cycle_trace.specs.TraceReading.{AreNames};
 ghost use Rattle.pw_top.specs.Check.{trace_bytes_limit, finding_text, check_work, ChecksTrace, ChecksPlan, IsCheckAnswer};
+ghost use Rattle.pw_top.specs.CheckFound.{event_at, IsFoundIn, IsFoundUnder, IsFoundByCheck};
 ghost use Rattle.pw_top.specs.ScriptFound.{end_of, IsScriptUnder};
-ghost use Rattle.pw_top.specs.WhatFound.{event_at, IsFoundIn, IsFoundUnder, IsFoundByCheck};
 ghost use Rattle.pw_top.specs.working.Ending.{Ends, CommandCause, IsDeliverable};
 ghost use Rattle.pw_top.specs.PlannedWork.{IsPlayable};
 ghost use Rattle.pw_top.specs.working.Preparing.{LoadsOnly, Tells};
@@ -61,7 +61,7 @@ impl CheckTrace {
     {
         match plan_file(alloc, files, &self.script, &mut found.script) {
             Err(status) => Err(status),
-            Ok(planned) => check_plan(alloc, files, &planned, &self.trace, &mut found.what),
+            Ok(planned) => check_plan(alloc, files, planned, &self.trace, &mut found.what),
         }
     }
 }
@@ -121,13 +121,17 @@ fn finding_by(seen: Seen) -> Finding
     }
 }
 
-// What is said of it beside the text.
-fn what_by(seen: Seen) -> What
-    ensures { result ≡ what_by seen }
+// What is said of it beside the text, with the names of the nodes.
+fn what_by(names: Items<Text>, seen: Seen) -> What
+    ensures { result ≡ what_by names seen }
 {
     match seen {
-        Seen::Line(_number) => What::Nothing,
-        Seen::Events(reason, event) => What::Check { reason, event },
+        Seen::Line(number) => What::NoEvent { number },
+        Seen::Events(reason, event) => What::Check {
+            names,
+            reason,
+            event,
+        },
     }
 }
 
@@ -165,23 +169,23 @@ fn check_work(alloc: Global, found: Finding) -> Result<Work, Memory>
 // What a trace gives once it is loaded.
 fn check_bytes(
     alloc: Global,
-    names: &Items<Text>,
+    names: Items<Text>,
     plan: &Plan,
     bytes: &Items<u8>,
     what: &mut What,
 ) -> Result<Work, Status>
     requires sound { IsSoundPlan plan.now }
-    requires names { AreNames names.now }
+    requires names { AreNames names }
     requires small { length bytes.now ≤ trace_bytes_limit }
-    ensures done { Ends (ChecksTrace names.now plan.now bytes.now) result }
-    ensures what { OnOk result (IsFoundIn names.now (map (λ e. e.shape) plan.now.epochs)
+    ensures done { Ends (ChecksTrace names plan.now bytes.now) result }
+    ensures what { OnOk result (IsFoundIn names (map (λ e. e.shape) plan.now.epochs)
         bytes.now what.new) }
     ensures cause { CommandCause IsDeliverable 0 0 result }
 {
-    match see(alloc, plan, names, bytes.as_slice()) {
+    match see(alloc, plan, &names, bytes.as_slice()) {
         Err(_memory) => Err(Status::Memory),
         Ok(seen) => {
-            *what = what_by(seen);
+            *what = what_by(names, seen);
             match check_work(alloc, finding_by(seen)) {
                 Err(_memory) => Err(Status::Memory),
                 Ok(work) => Ok(work),
@@ -194,18 +198,18 @@ fn check_bytes(
 fn check_plan<F: Files>(
     alloc: Global,
     files: &mut F,
-    planned: &Planned,
+    planned: Planned,
     trace: &Text,
     what: &mut What,
 ) -> Result<Work, Status>
-    requires planned { IsPlayable planned.now }
-    requires names { AreNames planned.now.script.names }
+    requires planned { IsPlayable planned }
+    requires names { AreNames planned.script.names }
     ensures files { LoadsOnly (F.held files.old) (F.held files.new) (F.load_faults files.old)
         (F.load_faults files.new) (F.store_faults files.old) (F.store_faults files.new) }
     ensures told { Tells (F.held files.old)
-        (λ names. ChecksPlan names trace.now planned.now) result }
+        (λ names. ChecksPlan names trace.now planned) result }
     ensures what { OnOk result (IsSome (F.held files.old)
-        → IsFoundUnder (names_in (F.held files.old)) trace.now planned.now what.new) }
+        → IsFoundUnder (names_in (F.held files.old)) trace.now planned what.new) }
     ensures cause { CommandCause IsDeliverable (F.load_faults files.old)
         (F.load_faults files.new) result }
 {
@@ -218,6 +222,9 @@ fn check_plan<F: Files>(
         Which::TraceBytes,
     ) {
         Err(status) => Err(status),
-        Ok(bytes) => check_bytes(alloc, &planned.script.names, &planned.plan, &bytes, what),
+        Ok(bytes) => {
+            let Planned { script, plan, .. } = planned;
+            check_bytes(alloc, script.names, &plan, &bytes, what)
+        }
     }
 }

@@ -2,26 +2,28 @@
 //! object.
 #![tactic(auto, using(crate::proofs::AllowedLemmas::parts))]
 
-ghost use Rattle.std.specs.Prelude.{◌≡◌, [], ◌∷◌, ◌++◌, codes, Ok, IfOk};
+ghost use Rattle.std.specs.Prelude.{◌≡◌, [], ◌∷◌, ◌++◌, codes, Ok, IsSome, IfOk, OnOk};
 ghost use Rattle.format_filter.specs.declared.common.Filtered.TheVariants.{Common};
 ghost use Rattle.format_filter.specs.CommonFormat.{IsSoundFormat};
+ghost use Rattle.pw_outside.specs.Files.{names_in};
 ghost use Rattle.command_frame.specs.declared.work.Content.TheVariants as C;
 ghost use Rattle.pw_top.specs.StatusLine.{numbers_line};
 ghost use Rattle.pw_top.specs.working.Ending.{Ends, CommandCause, IsDeliverable};
 ghost use Rattle.pw_top.specs.working.Preparing.{LoadsOnly, Tells};
 ghost use Rattle.pw_top.specs.Allowed.{Reads};
 ghost use Rattle.pw_top.specs.Filter.{clash_work, types_work, StoresObject, GivesFiltered, FiltersTo};
-ghost use Rattle.pw_top.specs.Filter.{ReadsSecond, LoadsSecond, ReadsFirst};
+ghost use Rattle.pw_top.specs.Filter.{ReadsSecond, LoadsSecond, ReadsFirst, IsFilterAnswer};
+ghost use Rattle.pw_top.specs.FilterFound.{IsFoundOf, IsFoundByFilter};
+ghost use Rattle.pw_top.specs.working.Filtering.{IsFoundWith, IsFoundAfter, IsFoundFrom};
 
 use crate::format_file::format_step;
 use crate::loading::load_step;
 use crate::pod_file::POD_BYTES;
-use crate::preparing::Prepare;
 use format_filter::{Filtered, Format, filter, pod_of};
 use pod_codec::{Pod, WriteFault, write_pod};
 use pw_lists::{Items, Memory, Text, Which, append_decimal};
 use pw_outside::Files;
-use run_results::{Content, Status, Store, Work};
+use run_results::{Content, Status, Store, What, Work};
 use std::alloc::Global;
 
 /// Filters the objects of two files, A as output, and stores what they have in common under a third
@@ -33,16 +35,28 @@ pub struct FilterFiles {
     pub out: Text,
 }
 
-impl Prepare for FilterFiles {
-    ghost use Rattle.pw_top.specs.Filter.{IsFilterAnswer};
-
-    ghost answers = { λ c names. IsFilterAnswer names c.a c.b c.out };
-
-    fn prepare<F: Files>(self, alloc: Global, files: &mut F) -> Result<Work, Status> {
+impl FilterFiles {
+    /// Makes the loads in order. What is found of a clash is left in `what`. It stores and puts
+    /// nothing.
+    pub fn find<F: Files>(
+        self,
+        alloc: Global,
+        files: &mut F,
+        what: &mut What,
+    ) -> Result<Work, Status>
+        ensures files { LoadsOnly (F.held files.old) (F.held files.new) (F.load_faults files.old)
+            (F.load_faults files.new) (F.store_faults files.old) (F.store_faults files.new) }
+        ensures told { Tells (F.held files.old)
+            (λ names. IsFilterAnswer names self.a self.b self.out) result }
+        ensures what { OnOk result (IsSome (F.held files.old)
+            → IsFoundByFilter (names_in (F.held files.old)) self.a self.b what.new) }
+        ensures cause { CommandCause IsDeliverable (F.load_faults files.old)
+            (F.load_faults files.new) result }
+    {
         let FilterFiles { a, b, out } = self;
         match load_step(alloc, files, 1, &a, POD_BYTES, Which::PodBytes) {
             Err(status) => Err(status),
-            Ok(bytes) => first_loaded(alloc, files, &bytes, &b, out),
+            Ok(bytes) => first_loaded(alloc, files, &bytes, &b, out, what),
         }
     }
 }
@@ -54,17 +68,20 @@ fn first_loaded<F: Files>(
     bytes: &Items<u8>,
     b: &Text,
     out: Text,
+    what: &mut What,
 ) -> Result<Work, Status>
     ensures files { LoadsOnly (F.held files.old) (F.held files.new) (F.load_faults files.old)
         (F.load_faults files.new) (F.store_faults files.old) (F.store_faults files.new) }
     ensures told { Tells (F.held files.old)
         (λ names. ReadsFirst names b.now out bytes.now) result }
+    ensures what { OnOk result (IsSome (F.held files.old)
+        → IsFoundFrom (names_in (F.held files.old)) b.now bytes.now what.new) }
     ensures cause { CommandCause IsDeliverable (F.load_faults files.old)
         (F.load_faults files.new) result }
 {
     match format_step(alloc, 1, bytes.as_slice()) {
         Err(status) => Err(status),
-        Ok(first) => load_second(alloc, files, &first, b, out),
+        Ok(first) => load_second(alloc, files, &first, b, out, what),
     }
 }
 
@@ -75,18 +92,21 @@ fn load_second<F: Files>(
     first: &Format,
     b: &Text,
     out: Text,
+    what: &mut What,
 ) -> Result<Work, Status>
     requires { IsSoundFormat first.now }
     ensures files { LoadsOnly (F.held files.old) (F.held files.new) (F.load_faults files.old)
         (F.load_faults files.new) (F.store_faults files.old) (F.store_faults files.new) }
     ensures told { Tells (F.held files.old)
         (λ names. LoadsSecond names b.now out first.now) result }
+    ensures what { OnOk result (IsSome (F.held files.old)
+        → IsFoundAfter (names_in (F.held files.old)) b.now first.now what.new) }
     ensures cause { CommandCause IsDeliverable (F.load_faults files.old)
         (F.load_faults files.new) result }
 {
     match load_step(alloc, files, 2, b, POD_BYTES, Which::PodBytes) {
         Err(status) => Err(status),
-        Ok(bytes) => second_loaded(alloc, first, &bytes, out),
+        Ok(bytes) => second_loaded(alloc, first, &bytes, out, what),
     }
 }
 
@@ -96,29 +116,47 @@ fn second_loaded(
     first: &Format,
     bytes: &Items<u8>,
     out: Text,
+    what: &mut What,
 ) -> Result<Work, Status>
     requires { IsSoundFormat first.now }
     ensures done { Ends (ReadsSecond out first.now bytes.now) result }
+    ensures what { OnOk result (IsFoundWith first.now bytes.now what.new) }
     ensures cause { CommandCause IsDeliverable 0 0 result }
 {
     match format_step(alloc, 2, bytes.as_slice()) {
         Err(status) => Err(status),
-        Ok(second) => filter_both(alloc, first, &second, out),
+        Ok(second) => filter_both(alloc, first, &second, out, what),
     }
 }
 
-// What the filter of two formats gives.
-fn filter_both(alloc: Global, a: &Format, b: &Format, out: Text) -> Result<Work, Status>
+// What the filter of two formats gives. What is found of it is left in `what`.
+fn filter_both(
+    alloc: Global,
+    a: &Format,
+    b: &Format,
+    out: Text,
+    what: &mut What,
+) -> Result<Work, Status>
     requires a { IsSoundFormat a.now }
     requires b { IsSoundFormat b.now }
     ensures done { Ends (Reads (FiltersTo out a.now b.now)) result }
+    ensures what { OnOk result (IsFoundOf a.now b.now what.new) }
     ensures cause { CommandCause IsDeliverable 0 0 result }
 {
     match filter(alloc, a, b) {
         Err(_memory) => Err(Status::Memory),
-        Ok(Filtered::Common(format)) => common_object(alloc, &format, out),
-        Ok(Filtered::Clash { key }) => clash_at(alloc, key),
-        Ok(Filtered::Types) => clash_of_types(alloc),
+        Ok(Filtered::Common(format)) => {
+            *what = What::Nothing;
+            common_object(alloc, &format, out)
+        }
+        Ok(Filtered::Clash { key }) => {
+            *what = What::Clash { key: Some(key) };
+            clash_at(alloc, key)
+        }
+        Ok(Filtered::Types) => {
+            *what = What::Clash { key: None };
+            clash_of_types(alloc)
+        }
     }
 }
 

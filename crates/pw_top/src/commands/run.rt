@@ -2,13 +2,15 @@
 //! is run.
 #![tactic(auto, using(crate::proofs::AllowedLemmas::parts))]
 
-ghost use Rattle.std.specs.Prelude.{◌≡◌, ◌≤◌, None};
+ghost use Rattle.std.specs.Prelude.{◌≡◌, ◌≤◌, None, IsSome, OnOk};
 ghost use Rattle.ready_queues.specs.Lanes.{loops_limit};
+ghost use Rattle.pw_outside.specs.Files.{names_in};
 ghost use Rattle.pw_top.specs.working.Ending.{CommandCause, IsDeliverable};
 ghost use Rattle.pw_top.specs.PlannedWork.{IsPlayable, PlaysPlan};
 ghost use Rattle.pw_top.specs.Playing.{happened, HasNothing, Plays, TellsPlay};
 ghost use Rattle.pw_top.specs.working.Preparing.{LoadsOnly};
 ghost use Rattle.pw_top.specs.Run.{IsRunAnswer};
+ghost use Rattle.pw_top.specs.RunFound.{plan_found, IsFoundByRun};
 ghost use Rattle.pw_top.specs.ScriptFound.{end_of, IsScriptUnder};
 
 use crate::plan_work::plan_work;
@@ -17,7 +19,7 @@ use crate::played::Played;
 use crate::playing::{Crew, run_planned};
 use pw_lists::Text;
 use pw_outside::{Files, Gate, Ticker};
-use run_results::{Status, Work};
+use run_results::{Found, Status, What, Work};
 use std::alloc::Global;
 use std::sync::Wait;
 use std::thread::Threads;
@@ -34,36 +36,41 @@ pub struct Running {
 
 impl Running {
     // Runs what is planned, and gives its work. What happened is left in `played`, also where
-    // memory is short for the work. It may wait.
+    // memory is short for the work, and what is found in `what`. It may wait.
     fn play_planned<R: Threads + Wait + Sync, G: Gate + Sync, K: Ticker>(
         &self,
         rt: &R,
         alloc: Global,
-        planned: &Planned,
+        planned: Planned,
         gate: &G,
         ticker: &mut K,
         played: &mut Played,
+        what: &mut What,
     ) -> Result<Work, Status>
-        requires planned { IsPlayable planned.now }
+        requires planned { IsPlayable planned }
         requires few { self.now.crew.loops ≤ loops_limit }
         requires none { HasNothing played.old }
         ensures done { Plays (PlaysPlan self.now.crew self.now.trace
-            (happened played.new (K.ticks ticker.old) (K.ticks ticker.new)) planned.now)
+            (happened played.new (K.ticks ticker.old) (K.ticks ticker.new)) planned)
             (happened played.new (K.ticks ticker.old) (K.ticks ticker.new)) result }
+        ensures what { OnOk result (what.new ≡ plan_found planned) }
         ensures cause { CommandCause IsDeliverable 0 0 result }
         ensures later { K.ticks ticker.old ≤ K.ticks ticker.new }
     {
-        match run_planned(rt, alloc, planned, self.crew, gate, ticker, played) {
+        match run_planned(rt, alloc, &planned, self.crew, gate, ticker, played) {
             Err(_memory) => Err(Status::Memory),
-            Ok(outcome) => match plan_work(alloc, planned, self.trace, &played.history, outcome) {
-                Err(_memory) => Err(Status::Memory),
-                Ok(work) => Ok(work),
-            },
+            Ok(outcome) => {
+                let history = &played.history;
+                match plan_work(alloc, planned, self.trace, history, outcome, what) {
+                    Err(_memory) => Err(Status::Memory),
+                    Ok(work) => Ok(work),
+                }
+            }
         }
     }
 
     /// Loads and plans the script, and runs its plan. What happened is left in `played`, and the
-    /// bytes of the script in `source`. It may wait.
+    /// bytes of the script and what is found of its run in `found`. It may wait.
     pub fn play<R: Threads + Wait + Sync, F: Files, G: Gate + Sync, K: Ticker>(
         self,
         rt: &R,
@@ -72,24 +79,29 @@ impl Running {
         gate: &G,
         ticker: &mut K,
         played: &mut Played,
-        source: &mut Option<Text>,
+        found: &mut Found,
     ) -> Result<Work, Status>
         requires few { self.crew.loops ≤ loops_limit }
         requires none { HasNothing played.old }
-        requires unread { source.old ≡ None }
+        requires unread { found.old.script ≡ None }
         ensures files { LoadsOnly (F.held files.old) (F.held files.new) (F.load_faults files.old)
             (F.load_faults files.new) (F.store_faults files.old) (F.store_faults files.new) }
         ensures told { TellsPlay (F.held files.old) (IsRunAnswer self
             (happened played.new (K.ticks ticker.old) (K.ticks ticker.new)))
             (happened played.new (K.ticks ticker.old) (K.ticks ticker.new)) result }
-        ensures source { IsScriptUnder (F.held files.old) self.script (end_of result) source.new }
+        ensures source { IsScriptUnder (F.held files.old) self.script (end_of result)
+            found.new.script }
+        ensures what { OnOk result (IsSome (F.held files.old)
+            → IsFoundByRun (names_in (F.held files.old)) self.script found.new.what) }
         ensures cause { CommandCause IsDeliverable (F.load_faults files.old)
             (F.load_faults files.new) result }
         ensures later { K.ticks ticker.old ≤ K.ticks ticker.new }
     {
-        match plan_file(alloc, files, &self.script, source) {
+        match plan_file(alloc, files, &self.script, &mut found.script) {
             Err(status) => Err(status),
-            Ok(planned) => self.play_planned(rt, alloc, &planned, gate, ticker, played),
+            Ok(planned) => {
+                self.play_planned(rt, alloc, planned, gate, ticker, played, &mut found.what)
+            }
         }
     }
 }

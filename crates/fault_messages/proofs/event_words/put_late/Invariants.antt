@@ -1,5 +1,4 @@
 use Rattle.std.proofs.Common.{◌≡◌, ◌++◌, map}
-use Rattle.std.specs.Prelude.{option_copied}
 use Rattle.cycle_trace.specs.Words.{spaced}
 use Rattle.cycle_trace.proofs.TextLemmas.{late_below}
 use Rattle.fault_messages.specs.NodeNames.{node_word}
@@ -7,4 +6,4 @@ use Rattle.fault_messages.proofs.event_words.put_late.Given as goal
 
 -- the late nodes below a number
 abbrev pub invariant-loop-n : goal.invariant-loop-n
-invariant-loop-n l = l.text ≡ l.fn.text ++ spaced (map (node_word (option_copied l.script)) (late_below l.late l.n))
+invariant-loop-n l = l.text ≡ l.fn.text ++ spaced (map (node_word l.names) (late_below l.late l.n))

@@ -10,6 +10,7 @@ returns-clause-told g c = record {
   told = c.run-status.ensures.told;
   complete = c.run-status.ensures.complete;
   said = subst (λ (l : List ℕ). IfOk c.explained-sentence.result
-      (λ text. text ≡ said_of c.run-status.result (map string_bytes c.args.words.now) l))
-      c.as_slice.ensures c.explained-sentence.ensures;
+      (λ text. text ≡ said_of c.run-status.result (map string_bytes c.args.words.now) l
+      (g.F.TellsWhy.why c.run-status.new.files)))
+      c.as_slice.ensures (rw c.why.ensures at c.explained-sentence.ensures);
 }

@@ -3,14 +3,14 @@ use Rattle.std.proofs.Common.{[], map, ap, subst, sym, ◌∙◌}
 use Rattle.std.specs.Prelude.{Ok}
 use Rattle.pw_top.specs.working.Seen.{IsSeenOn, finding_by}
 use Rattle.pw_top.specs.Check.{check_work, FindsTrace}
-use Rattle.pw_top.specs.WhatFound.{IsFoundIn}
+use Rattle.pw_top.specs.CheckFound.{IsFoundIn}
 use Rattle.pw_top.proofs.AllowedLemmas.{part_gives}
 use Rattle.pw_top.proofs.FoundLemmas.{seen_finding, seen_found}
 use Rattle.pw_top.proofs.commands.check_traces.check_bytes.Goals as goal
 
 pub returns-in-Ok-check_work-clause-done : goal.returns-in-Ok-check_work-clause-done
 returns-in-Ok-check_work-clause-done c =
-    let names = c.args.names.now in
+    let names = c.args.names in
     let shapes = map (λ e. e.shape) c.args.plan.now.epochs in
     let bytes = c.args.bytes.now in
     let seen = subst (λ bs. IsSeenOn names shapes bs c.in-Ok.seen) c.as_slice.ensures c.in-Ok.ensures in
@@ -22,7 +22,7 @@ returns-in-Ok-check_work-clause-done c =
 
 pub returns-in-Ok-check_work-clause-what : goal.returns-in-Ok-check_work-clause-what
 returns-in-Ok-check_work-clause-what c =
-    let names = c.args.names.now in
+    let names = c.args.names in
     let shapes = map (λ e. e.shape) c.args.plan.now.epochs in
     let bytes = c.args.bytes.now in
     let seen = subst (λ bs. IsSeenOn names shapes bs c.in-Ok.seen) c.as_slice.ensures c.in-Ok.ensures in

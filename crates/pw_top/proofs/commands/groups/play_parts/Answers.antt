@@ -24,7 +24,7 @@ returns-in-Err-clause-done g c = λ n. record {
 
 pub returns-in-Err-groups_work-clause-done : goal.returns-in-Err-groups_work-clause-done
 returns-in-Err-groups_work-clause-done g c = λ n. record {
-  answer = record { loads = []; outcome = Ok (groups_work c.args.parted.now) };
+  answer = record { loads = []; outcome = Ok (groups_work c.args.parted) };
   allowed = (refl, inl (c.in-Ok.ensures.run n, refl));
   ends = is_end tt;
   played = inr refl;
@@ -32,13 +32,13 @@ returns-in-Err-groups_work-clause-done g c = λ n. record {
 
 pub returns-in-Ok-groups_work-clause-done : goal.returns-in-Ok-groups_work-clause-done
 returns-in-Ok-groups_work-clause-done g c = λ n. record {
-  answer = record { loads = []; outcome = Ok (groups_work c.args.parted.now) };
+  answer = record { loads = []; outcome = Ok (groups_work c.args.parted) };
   allowed = (refl, inl (c.in-Ok.ensures.run n, refl));
-  ends = is_end (ap (λ (w : Work). Ok w) (sym c.in-Ok-groups_work.ensures));
+  ends = is_end (ap (λ (w : Work). Ok w) (sym c.in-Ok-groups_work.ensures.work));
   played = tt;
 }
 
 pub returns-in-Ok-groups_work-clause-cause : goal.returns-in-Ok-groups_work-clause-cause
-returns-in-Ok-groups_work-clause-cause g c = let p = c.args.parted.now in let r = c.requires.parted in
-    subst IsDeliverable (sym c.in-Ok-groups_work.ensures) (stores_made p.script.lines (parts_outcome p).sinks r.placed
+returns-in-Ok-groups_work-clause-cause g c = let p = c.args.parted in let r = c.requires.parted in
+    subst IsDeliverable (sym c.in-Ok-groups_work.ensures.work) (stores_made p.script.lines (parts_outcome p).sinks r.placed
     (in_order_meets p.waves (λ (kept : Kept). IsWave kept.wav) (length p.script.names) p.parts.parts (waves_kept p.waves p.parts.parts r.sound r.fit)))

@@ -1,4 +1,4 @@
--- What is planned is run; a refusal has run nothing.
+-- What is planned is run, and is found; a refusal has run nothing.
 use Rattle.std.proofs.Common.{refl, inl}
 use Rattle.pw_outside.specs.Files.{names_in}
 use Rattle.run_results.specs.declared.status.Status.TheVariants as S
@@ -6,6 +6,7 @@ use Rattle.pw_top.specs.Groups.{PartsFile}
 use Rattle.pw_top.specs.ScriptFound.{end_of}
 use Rattle.pw_top.proofs.PlayingLemmas.{plays_goes, plays_stops}
 use Rattle.pw_top.proofs.FoundLemmas.{script_later}
+use Rattle.pw_top.proofs.RunFoundLemmas.{groups_found}
 use Rattle.pw_top.proofs.commands.groups.Grouping.play.Goals as goal
 
 pub returns-clause-told : goal.returns-clause-told
@@ -19,3 +20,7 @@ returns-in-Err-clause-told g c = λ n h. plays_stops (PartsFile (names_in (g.F.F
 pub returns-clause-source : goal.returns-clause-source
 returns-clause-source g c = script_later (g.F.Files.held c.args.files.now) c.args.self.script _ S.Ok (end_of c.play_parts.result) (inl refl)
     c.in-Ok.ensures.source
+
+pub returns-clause-what : goal.returns-clause-what
+returns-clause-what g c = groups_found (g.F.Files.held c.args.files.now) c.args.self.script _ c.play_parts.result c.in-Ok.parted
+    c.in-Ok.ensures.told c.play_parts.ensures.what

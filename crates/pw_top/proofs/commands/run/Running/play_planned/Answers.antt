@@ -21,7 +21,7 @@ returns-in-Err-clause-done g c = record {
 
 pub returns-in-Err-plan_work-clause-done : goal.returns-in-Err-plan_work-clause-done
 returns-in-Err-plan_work-clause-done g c = record {
-  answer = record { loads = []; outcome = Ok (plan_work c.args.planned.now c.args.self.now.trace c.run_planned.new.played.history) };
+  answer = record { loads = []; outcome = Ok (plan_work c.args.planned c.args.self.now.trace c.run_planned.new.played.history) };
   allowed = (refl, inl (c.in-Ok.ensures.run, refl));
   ends = is_end tt;
   played = inr refl;
@@ -29,13 +29,13 @@ returns-in-Err-plan_work-clause-done g c = record {
 
 pub returns-in-Ok-plan_work-clause-done : goal.returns-in-Ok-plan_work-clause-done
 returns-in-Ok-plan_work-clause-done g c = record {
-  answer = record { loads = []; outcome = Ok (plan_work c.args.planned.now c.args.self.now.trace c.run_planned.new.played.history) };
+  answer = record { loads = []; outcome = Ok (plan_work c.args.planned c.args.self.now.trace c.run_planned.new.played.history) };
   allowed = (refl, inl (c.in-Ok.ensures.run, refl));
-  ends = is_end (ap (λ (w : Work). Ok w) (sym c.in-Ok-plan_work.ensures));
+  ends = is_end (ap (λ (w : Work). Ok w) (sym c.in-Ok-plan_work.ensures.work));
   played = tt;
 }
 
 pub returns-in-Ok-plan_work-clause-cause : goal.returns-in-Ok-plan_work-clause-cause
-returns-in-Ok-plan_work-clause-cause g c = subst IsDeliverable (sym c.in-Ok-plan_work.ensures)
-    (stores_made c.args.planned.now.script.lines c.args.planned.now.plan c.args.planned.now.waves c.requires.planned.sound
+returns-in-Ok-plan_work-clause-cause g c = subst IsDeliverable (sym c.in-Ok-plan_work.ensures.work)
+    (stores_made c.args.planned.script.lines c.args.planned.plan c.args.planned.waves c.requires.planned.sound
     c.requires.planned.fit c.requires.planned.placed)

@@ -1,0 +1,4 @@
+pub mod Sides
+pub mod Refused
+pub mod Words
+pub mod working
