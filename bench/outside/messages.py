@@ -11,10 +11,10 @@ SYNOPSIS = """usage: pipegraph run SCRIPT [--loops N] [--ticks N] [--trace] [--s
        pipegraph soak NUMBER
        pipegraph groups SCRIPT
 """
-UNWRITTEN = "the file cannot be written: there is no such folder"
+NO_FOLDER = "there is no such folder, or it can have no such file"
+UNWRITTEN = f"the file cannot be written: {NO_FOLDER}"
 UNREAD = "the system refuses it"  # a file, in the words of pipegraph-pictures
-REASONS = ["it is a folder", "there is no such folder", "the system does not permit it",
-           "no room is left"]
+REASONS = ["it is a folder", NO_FOLDER, "the system does not permit it", "no room is left"]
 
 # A word, and how every program shows it.
 ODD = [("a\x1b[1m\x7f", "a\\x1b[1m\\x7f"), ("a\x85b\x9f", "a\\xc2\\x85b\\xc2\\x9f"),
@@ -61,7 +61,7 @@ def sentences(place):
             (["run", "folder.graph"], 7, "write 2\n",
              "folder.graph:2: /tmp: the file cannot be written: it is a folder"),
             (["dump", "vox.wav/a"], 6, "read 1\n",
-             "vox.wav/a: the file cannot be read: there is no such folder"),
+             f"vox.wav/a: the file cannot be read: {NO_FOLDER}"),
             (["dump", "vox.wav"], 4, "pod 1 6 1481001298\n",
              "vox.wav: a POD of more than 1048576 bytes: 1481001298"),
             (["check", "fine.graph", "none"], 5, "absent 4294967295\n",

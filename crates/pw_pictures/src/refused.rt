@@ -64,7 +64,7 @@ fn refuses<R: AllocGlobal + Abort + rt::Files>(
 #[test]
 fn a_file_that_is_refused_is_told_with_its_reason(rt: HostRuntime) -> Result<(), Fail> {
     let rows = [
-        (ErrorKind::NotADirectory, ": there is no such folder"),
+        (ErrorKind::NotADirectory, ": there is no such folder, or it can have no such file"),
         (ErrorKind::IsADirectory, ": it is a folder"),
         (
             ErrorKind::PermissionDenied,

@@ -64,7 +64,7 @@ fn refuses<R: AllocGlobal + Abort + rt::Files>(
 #[test]
 fn a_file_that_is_refused_is_told_with_its_reason(rt: HostRuntime) -> Result<(), Fail> {
     let rows = [
-        (ErrorKind::NotADirectory, ": there is no such folder"),
+        (ErrorKind::NotADirectory, ": there is no such folder, or it can have no such file"),
         (ErrorKind::IsADirectory, ": it is a folder"),
         (
             ErrorKind::PermissionDenied,
@@ -83,7 +83,8 @@ fn a_file_that_is_refused_is_told_with_its_reason(rt: HostRuntime) -> Result<(),
     }
     let absent = "pipegraph-pods: \"a\": there is no such file\n";
     refuses(&rt, "gains a b", ErrorKind::NotFound, 5, "", absent)?;
-    let folder = "pipegraph-pods: \"b\": it cannot be written: there is no such folder\n";
+    let folder = "pipegraph-pods: \"b\": it cannot be written: there is no such folder, or it can \
+        have no such file\n";
     let format = "format b rate 1 channels 2";
     refuses(&rt, format, ErrorKind::NotFound, 7, "", folder)?;
     Ok(())
