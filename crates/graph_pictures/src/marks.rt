@@ -79,11 +79,7 @@ fn mark_at(cycles: Option<Cycles>, events: &[Event], number: u32) -> Option<Mark
 /// The mark at the event of a number, counted from 1, or behind the last event: none where no
 /// number is asked for, or its event is not among the first 1,000 that are drawn. Cost: one look at
 /// each event before it.
-pub(crate) fn mark_of(
-    cycles: Option<Cycles>,
-    events: &[Event],
-    number: Option<u32>,
-) -> Option<Mark>
+pub(crate) fn mark_of(cycles: Option<Cycles>, events: &[Event], number: Option<u32>) -> Option<Mark>
     ensures { result ≡ mark_of cycles events.now number }
 {
     match number {
@@ -141,11 +137,6 @@ pub(crate) fn put_mark(text: &mut Text, frame: Frame, mark: Option<Mark>) -> Res
 {
     match mark {
         None => Ok(()),
-        Some(mark) => put_at(
-            text,
-            frame,
-            u64::from(mark.index),
-            u64::from(mark.number),
-        ),
+        Some(mark) => put_at(text, frame, u64::from(mark.index), u64::from(mark.number)),
     }
 }

@@ -524,8 +524,14 @@ fn a_refused_line_of_a_script_says_why(rt: HostRuntime) -> Result<(), Fail> {
             "a name, a port or a file word has the wrong form",
         ),
         (ScriptWhy::NameTaken, "the name is taken"),
-        (ScriptWhy::NameUnknown, "no line before this one makes a node of this name"),
-        (ScriptWhy::PortUnknown, "the node has no such output, or no such input"),
+        (
+            ScriptWhy::NameUnknown,
+            "no line before this one makes a node of this name",
+        ),
+        (
+            ScriptWhy::PortUnknown,
+            "the node has no such output, or no such input",
+        ),
         (
             ScriptWhy::QuantumLate,
             "quantum comes before every other command",
