@@ -40,8 +40,8 @@ IsRunDrawn Draws script trace names = Binds statuses (IsScriptRead script names)
 abbrev pub IsPicture : Request → Names → Expected Status (List ℕ) → Type 0
 IsPicture (R.Graph script) names = IsGraphDrawn script names
 IsPicture (R.RunGraph script trace) names = IsRunDrawn DrawsRun script trace names
-IsPicture (R.Timeline script trace cycles) names =
-    IsRunDrawn (DrawsTrace cycles) script trace names
+IsPicture (R.Timeline script trace cycles at) names =
+    IsRunDrawn (DrawsTrace cycles at) script trace names
 IsPicture (R.Wave file) names = IsWaveDrawn file names
 
 -- a picture is put, and nothing is stored

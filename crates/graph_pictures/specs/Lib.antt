@@ -8,6 +8,7 @@ pub mod GraphLinks
 pub mod GraphNodes
 pub mod GraphText
 pub mod Legend
+pub mod Marks
 pub mod Reading
 pub mod Refusals
 pub mod Rows
@@ -21,6 +22,7 @@ pub mod Timeline
 pub mod TimelineText
 pub mod TraceAnswers
 pub mod TraceText
+pub mod VerdictWords
 pub mod Words
 pub mod AtWork
 pub mod WaveColumns

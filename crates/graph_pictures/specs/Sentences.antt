@@ -25,7 +25,7 @@ file_said words place = escaped (file_word words place)
 -- the forms of the commands, the version, and where the manual is
 abbrev pub usage_said : List ℕ
 usage_said = codes "usage: pipegraph-pictures graph SCRIPT [TRACE] | " ++ codes
-    "timeline SCRIPT TRACE [FROM TO] | wave FILE\n" ++ codes
+    "timeline SCRIPT TRACE [FROM TO] [VERDICT] | wave FILE\n" ++ codes
     "version 0.1; the manual: man pipegraph-pictures where it is installed, and " ++ codes
     "man -l docs/pipegraph-pictures.1\n"
 

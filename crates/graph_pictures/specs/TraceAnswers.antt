@@ -10,21 +10,24 @@ use Rattle.graph_pictures.specs.declared.status.Status.{Status}
 use Rattle.graph_pictures.specs.declared.status.Status.TheVariants as S
 use Rattle.graph_pictures.specs.Cycles.{chosen}
 use Rattle.graph_pictures.specs.GraphText.{graph_text}
+use Rattle.graph_pictures.specs.Marks.{mark_of}
 use Rattle.graph_pictures.specs.TimelineText.{timeline_text}
 use Rattle.graph_pictures.specs.TraceText.{IsTrace, IsFirstBad}
 
--- the timeline of those events of a run's text that are asked for, or its first bad line, or the
--- word of a cycle that no event is of
-abbrev pub DrawsTrace : Option Cycles → Script → List ℕ → Result (List ℕ) Status → Type 0
-DrawsTrace cycles script bytes (Ok text) = (events : List Event)
+-- the timeline of those events of a run's text that are asked for, with the mark that is asked for,
+-- or its first bad line, or the word of a cycle that no event is of
+abbrev pub DrawsTrace : Option Cycles → Option ℕ → Script → List ℕ → Result (List ℕ) Status
+    → Type 0
+DrawsTrace cycles at script bytes (Ok text) = (events : List Event)
     × IsTrace script.names (trace_lines bytes) events × (drawn : List Event)
-    × (chosen cycles events ≡ Ok drawn) × (text ≡ timeline_text script.names drawn)
-DrawsTrace cycles script bytes (Err (S.NoCycle word)) = (events : List Event)
+    × (chosen cycles events ≡ Ok drawn)
+    × (text ≡ timeline_text script.names drawn (mark_of cycles events at))
+DrawsTrace cycles at script bytes (Err (S.NoCycle word)) = (events : List Event)
     × IsTrace script.names (trace_lines bytes) events × (chosen cycles events ≡ Err word)
-DrawsTrace cycles script bytes (Err (S.Line number)) =
+DrawsTrace cycles at script bytes (Err (S.Line number)) =
     IsFirstBad script.names (trace_lines bytes) number
-DrawsTrace cycles script bytes (Err S.Memory) = Unit {0}
-DrawsTrace cycles script bytes (Err status) = ⊥
+DrawsTrace cycles at script bytes (Err S.Memory) = Unit {0}
+DrawsTrace cycles at script bytes (Err status) = ⊥
 
 -- the graph of a script with what a run's text says of its links, or the first bad line
 abbrev pub DrawsRun : Script → List ℕ → Result (List ℕ) Status → Type 0

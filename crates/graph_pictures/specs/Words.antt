@@ -7,6 +7,7 @@ use Rattle.command_frame.specs.Words.{Words, then_file, then_nothing}
 use Rattle.graph_script.specs.Arguments.{number_of}
 use Rattle.graph_pictures.specs.declared.words.Request.{Request}
 use Rattle.graph_pictures.specs.declared.words.Request.TheVariants as R
+use Rattle.graph_pictures.specs.VerdictWords.{is_verdict, verdict_of}
 
 -- the words after `graph`: a script, and after it the trace of its run or nothing
 abbrev pub graph_behind : List ℕ → Words → Result Request ℕ
@@ -21,7 +22,7 @@ graph_of words = then_file 1 words graph_behind
 abbrev pub to_last : List ℕ → List ℕ → ℕ → Option ℕ → Words → Result Request ℕ
 to_last script trace from None rest = Err 4
 to_last script trace from (Some to) rest =
-    then_nothing 5 rest (R.Timeline script trace (Some (record { from = from; to = to })))
+    verdict_of script trace (Some (record { from = from; to = to })) 5 rest
 
 -- the words after a first cycle, if that is a number: the last, which is not before it
 abbrev pub from_first : List ℕ → List ℕ → Option ℕ → Words → Result Request ℕ
@@ -30,11 +31,13 @@ from_first script trace (Some from) [] = Err 4
 from_first script trace (Some from) (word ∷ rest) =
     to_last script trace from (number_of from 4294967295 word) rest
 
--- the words after a trace: nothing, or the first and the last of its cycles that are asked for
+-- the words after a trace: nothing, or the first and the last of its cycles that are asked for, and
+-- a verdict of it, or none
 abbrev pub trace_behind : List ℕ → List ℕ → Words → Result Request ℕ
-trace_behind script trace [] = Ok (R.Timeline script trace None)
-trace_behind script trace (word ∷ rest) =
-    from_first script trace (number_of 0 4294967295 word) rest
+trace_behind script trace [] = verdict_of script trace None 3 []
+trace_behind script trace (word ∷ rest) = if is_verdict word
+    then verdict_of script trace None 3 (word ∷ rest)
+    else from_first script trace (number_of 0 4294967295 word) rest
 
 -- the words after `timeline`: a script, and a trace after it
 abbrev pub timeline_behind : List ℕ → Words → Result Request ℕ

@@ -29,8 +29,8 @@ fn cycle_of(event: Event) -> u32
     }
 }
 
-// An event, where its cycle is in a range.
-fn in_range(range: Cycles, event: Event) -> Option<Event>
+/// An event, where its cycle is in a range.
+pub(crate) fn in_range(range: Cycles, event: Event) -> Option<Event>
     ensures { result ≡ in_range range event }
 {
     let cycle = cycle_of(event);

@@ -12,6 +12,7 @@ ghost use Rattle.graph_pictures.specs.working.Sound.{IsSoundScript, Anything};
 
 use crate::cycles::{Cycles, chosen};
 use crate::graph_drawing::graph;
+use crate::marks::mark_of;
 use crate::status::Status;
 use crate::timeline_drawing::timeline;
 use crate::trace_text::read_run;
@@ -92,28 +93,33 @@ fn read_graph<F: Files>(alloc: Global, files: &mut F, name: &Text) -> Result<Tex
     }
 }
 
-// The timeline of those events of a run's text that are asked for.
+// The timeline of those events of a run's text that are asked for, with the mark at the event of a
+// number.
 fn drawn_trace(
     alloc: Global,
     script: &Script,
     cycles: Option<Cycles>,
+    at: Option<u32>,
     bytes: &[u8],
 ) -> Result<Text, Status>
     requires { IsSoundScript script.now }
-    ensures drawn { DrawsTrace cycles script.now bytes.now result }
+    ensures drawn { DrawsTrace cycles at script.now bytes.now result }
     ensures cause { CommandCause statuses Anything 0 0 result }
 {
     match read_run(alloc, script.names(), bytes) {
         Err(TraceFault::Line(number)) => Err(Status::Line { number }),
         Err(TraceFault::Memory) => Err(Status::Memory),
-        Ok(events) => match chosen(alloc, cycles, events) {
-            Err(Misread::Word(word)) => Err(Status::NoCycle { word }),
-            Err(Misread::Memory) => Err(Status::Memory),
-            Ok(drawn) => match timeline(alloc, script.names(), &drawn) {
-                Ok(text) => Ok(text),
-                Err(_memory) => Err(Status::Memory),
-            },
-        },
+        Ok(events) => {
+            let mark = mark_of(cycles, events.as_slice(), at);
+            match chosen(alloc, cycles, events) {
+                Err(Misread::Word(word)) => Err(Status::NoCycle { word }),
+                Err(Misread::Memory) => Err(Status::Memory),
+                Ok(drawn) => match timeline(alloc, script.names(), &drawn, mark) {
+                    Ok(text) => Ok(text),
+                    Err(_memory) => Err(Status::Memory),
+                },
+            }
+        }
     }
 }
 
@@ -155,18 +161,19 @@ fn read_trace<F: Files>(
     script: &Script,
     name: &Text,
     cycles: Option<Cycles>,
+    at: Option<u32>,
 ) -> Result<Text, Status>
     requires { IsSoundScript script.now }
     ensures files { LoadsOnly (F.held files.old) (F.held files.new) (F.load_faults files.old)
         (F.load_faults files.new) (F.store_faults files.old) (F.store_faults files.new) }
     ensures told { Tells statuses (F.held files.old)
-        (IsTraceDrawn (DrawsTrace cycles script.now) name.now) result }
+        (IsTraceDrawn (DrawsTrace cycles at script.now) name.now) result }
     ensures cause { CommandCause statuses Anything (F.load_faults files.old)
         (F.load_faults files.new) result }
 {
     match load_trace(alloc, files, name) {
         Err(status) => Err(status),
-        Ok(bytes) => drawn_trace(alloc, script, cycles, bytes.as_slice()),
+        Ok(bytes) => drawn_trace(alloc, script, cycles, at, bytes.as_slice()),
     }
 }
 
@@ -218,17 +225,18 @@ fn read_timeline<F: Files>(
     script: &Text,
     trace: &Text,
     cycles: Option<Cycles>,
+    at: Option<u32>,
 ) -> Result<Text, Status>
     ensures files { LoadsOnly (F.held files.old) (F.held files.new) (F.load_faults files.old)
         (F.load_faults files.new) (F.store_faults files.old) (F.store_faults files.new) }
     ensures told { Tells statuses (F.held files.old)
-        (IsRunDrawn (DrawsTrace cycles) script.now trace.now) result }
+        (IsRunDrawn (DrawsTrace cycles at) script.now trace.now) result }
     ensures cause { CommandCause statuses Anything (F.load_faults files.old)
         (F.load_faults files.new) result }
 {
     match read_script(alloc, files, script) {
         Err(status) => Err(status),
-        Ok(script) => read_trace(alloc, files, &script, trace, cycles),
+        Ok(script) => read_trace(alloc, files, &script, trace, cycles, at),
     }
 }
 
@@ -288,7 +296,8 @@ pub(crate) fn picture_of<F: Files>(
             script,
             trace,
             cycles,
-        } => read_timeline(alloc, files, script, trace, *cycles),
+            at,
+        } => read_timeline(alloc, files, script, trace, *cycles, *at),
         Request::Wave { file } => read_wave(alloc, files, file),
     }
 }

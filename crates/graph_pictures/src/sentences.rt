@@ -141,7 +141,7 @@ fn usage_said() -> &'static [u8]
     ensures { result.now ≡ usage_said }
 {
     b"usage: pipegraph-pictures graph SCRIPT [TRACE] | \
-      timeline SCRIPT TRACE [FROM TO] | wave FILE\n\
+      timeline SCRIPT TRACE [FROM TO] [VERDICT] | wave FILE\n\
       version 0.1; the manual: man pipegraph-pictures where it is installed, and \
       man -l docs/pipegraph-pictures.1\n"
 }

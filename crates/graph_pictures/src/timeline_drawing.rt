@@ -6,6 +6,7 @@ ghost use Rattle.graph_pictures.specs.TimelineText.{picture_text, shown_text, ti
 
 use crate::bands::{first_of, put_bands};
 use crate::frame::{Frame, frame_of};
+use crate::marks::{Mark, put_mark};
 use crate::nodes_at_work::at_work;
 use crate::rows::put_rows;
 use crate::strip::put_strip;
@@ -139,16 +140,18 @@ fn put_picture(
     names: &[Text],
     rows: &[u32],
     shown: &[Event],
+    mark: Option<Mark>,
 ) -> Result<(), Memory>
     requires few { length rows.now ≤ 64 }
     requires shown { length shown.now ≤ 1000 }
     requires sizes { AreSizes frame }
     ensures { OnOk result
-        (text.new ≡ text.old ++ picture_text frame names.now rows.now shown.now) }
+        (text.new ≡ text.old ++ picture_text frame names.now rows.now shown.now mark) }
 {
     put_head(text, frame)?;
     put_groups(text, frame, names, rows, shown)?;
     put_bands(text, frame, shown)?;
+    put_mark(text, frame, mark)?;
     fill(text, b"</svg>\n", &[])?;
     Ok(())
 }
@@ -160,14 +163,15 @@ fn put_shown(
     names: &[Text],
     shown: &[Event],
     all: u64,
+    mark: Option<Mark>,
 ) -> Result<(), Memory>
     requires shown { length shown.now ≤ 1000 }
-    ensures { OnOk result (text.new ≡ text.old ++ shown_text names.now shown.now all) }
+    ensures { OnOk result (text.new ≡ text.old ++ shown_text names.now shown.now all mark) }
 {
     let rows = at_work(alloc, shown)?;
     let rows = rows.as_slice();
     let frame = frame_of(names, rows, shown.len() as u64, all);
-    put_picture(text, frame, names, rows, shown)
+    put_picture(text, frame, names, rows, shown, mark)
 }
 
 /// The timeline of events as an SVG, where the nodes have these names.
@@ -177,10 +181,16 @@ fn put_shown(
 /// begin, a bar from the start of a node to its finish, or to the end, and a dotted rule with a
 /// diamond in the row of each late node at a late check. After 200 events the next band begins
 /// below, which says its cycle; of more than 1,000 events the first 1,000 are drawn, which a note
-/// says. Takes memory for the text.
+/// says. A mark is a red rule before the event of its place, with its number. Takes memory for the
+/// text.
 #[tactic(auto, unfolding(crate::specs::TimelineText::timeline_text))]
-pub fn timeline(alloc: Global, names: &Items<Text>, events: &Items<Event>) -> Result<Text, Memory>
-    ensures { IfOk result (λ text. text ≡ timeline_text names.now events.now) }
+pub fn timeline(
+    alloc: Global,
+    names: &Items<Text>,
+    events: &Items<Event>,
+    mark: Option<Mark>,
+) -> Result<Text, Memory>
+    ensures { IfOk result (λ text. text ≡ timeline_text names.now events.now mark) }
 {
     let events = events.as_slice();
     let mut text = Items::new(alloc);
@@ -190,6 +200,7 @@ pub fn timeline(alloc: Global, names: &Items<Text>, events: &Items<Event>) -> Re
         names.as_slice(),
         first_of(events, SHOWN),
         events.len() as u64,
+        mark,
     )?;
     Ok(text)
 }

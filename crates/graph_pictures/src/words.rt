@@ -6,13 +6,15 @@ ghost use Rattle.graph_pictures.specs.Words.{graph_behind, graph_of, from_first,
 ghost use Rattle.graph_pictures.specs.declared.words.Request.TheVariants as R;
 
 use crate::cycles::Cycles;
+use crate::verdict_words::{is_verdict, read_verdict};
 use command_frame::Misread;
 use graph_script::number_within;
 use pw_lists::{Items, Memory, Text};
 use std::alloc::Global;
 
 /// What words ask for: a picture of a script's graph, one with what a run of it did, a timeline of
-/// a trace of it or of a range of its cycles, or the peaks of a WAV file.
+/// a trace of it or of a range of its cycles, in which an event may be marked, or the peaks of a WAV
+/// file.
 #[derive(Drop)]
 pub enum Request {
     Graph {
@@ -26,6 +28,8 @@ pub enum Request {
         script: Text,
         trace: Text,
         cycles: Option<Cycles>,
+        /// The number of an event that is marked, counted from 1.
+        at: Option<u32>,
     },
     Wave {
         file: Text,
@@ -53,8 +57,8 @@ fn graph_request(alloc: Global, script: &String) -> Result<Request, Misread>
     }
 }
 
-// The texts of two words.
-fn two_texts(alloc: Global, a: &String, b: &String) -> Result<(Text, Text), Memory>
+/// The texts of two words.
+pub(crate) fn two_texts(alloc: Global, a: &String, b: &String) -> Result<(Text, Text), Memory>
     ensures { IfOk result (λ r. (r.0 ≡ string_bytes a.now) × (r.1 ≡ string_bytes b.now)) }
 {
     let a = Items::from_slice(alloc, a.as_bytes())?;
@@ -68,26 +72,6 @@ fn run_graph_request(alloc: Global, script: &String, trace: &String) -> Result<R
 {
     match two_texts(alloc, script, trace) {
         Ok((script, trace)) => Ok(Request::RunGraph { script, trace }),
-        Err(_memory) => Err(Misread::Memory),
-    }
-}
-
-// The request of a timeline, of these cycles or of all.
-fn timeline_request(
-    alloc: Global,
-    script: &String,
-    trace: &String,
-    cycles: Option<Cycles>,
-) -> Result<Request, Misread>
-    ensures { IsAsked (Ok (R.Timeline (string_bytes script.now) (string_bytes trace.now) cycles))
-        result }
-{
-    match two_texts(alloc, script, trace) {
-        Ok((script, trace)) => Ok(Request::Timeline {
-            script,
-            trace,
-            cycles,
-        }),
         Err(_memory) => Err(Misread::Memory),
     }
 }
@@ -159,14 +143,25 @@ fn read_last(
         [] => Err(Misread::Word(4)),
         [word, more @ ..] => match cycle_in(word, from) {
             None => Err(Misread::Word(4)),
-            Some(to) => {
-                if more.is_empty() {
-                    timeline_request(alloc, script, trace, Some(Cycles { from, to }))
-                } else {
-                    Err(Misread::Word(5))
-                }
-            }
+            Some(to) => read_verdict(alloc, script, trace, Some(Cycles { from, to }), 5, more),
         },
+    }
+}
+
+// The first cycle, and the words after it.
+fn read_first(
+    alloc: Global,
+    script: &String,
+    trace: &String,
+    word: &String,
+    rest: &[String],
+) -> Result<Request, Misread>
+    ensures { IsAsked (from_first (string_bytes script.now) (string_bytes trace.now)
+        (number_of 0 4294967295 (string_bytes word.now)) (map string_bytes rest.now)) result }
+{
+    match cycle_in(word, 0) {
+        None => Err(Misread::Word(3)),
+        Some(from) => read_last(alloc, script, trace, from, rest),
     }
 }
 
@@ -181,11 +176,14 @@ fn read_cycles(
         (map string_bytes rest.now)) result }
 {
     match rest {
-        [] => timeline_request(alloc, script, trace, None),
-        [word, more @ ..] => match cycle_in(word, 0) {
-            None => Err(Misread::Word(3)),
-            Some(from) => read_last(alloc, script, trace, from, more),
-        },
+        [] => read_verdict(alloc, script, trace, None, 3, rest),
+        [word, more @ ..] => {
+            if is_verdict(word) {
+                read_verdict(alloc, script, trace, None, 3, rest)
+            } else {
+                read_first(alloc, script, trace, word, more)
+            }
+        }
     }
 }
 

@@ -292,6 +292,49 @@ fn a_range_has_the_events_of_its_cycles_only(rt: HostRuntime) -> Result<(), Fail
     Ok(())
 }
 
+// The mark at an event of this number, and the end of a picture, by where its rule is.
+fn expect_mark<R: AllocGlobal + Abort>(rt: &R, line: &str, wanted: &[u8]) -> Result<(), Memory> {
+    expect_end_of(rt, line, b"begin 5\ntick 5 dummy\n", wanted)
+}
+
+#[test]
+fn an_illegal_event_is_marked(rt: HostRuntime) -> Result<(), Fail> {
+    let first = b"<text x='127' y='12'>5</text></g>\n\
+        <path stroke='red' stroke-width='2' d='M124 48v34'/>\
+        <text fill='red' text-anchor='middle' x='124' y='96'>illegal 1</text>\n</svg>\n";
+    expect_mark(&rt, "timeline s t illegal 1", first)?;
+    let second = b"<text x='127' y='12'>5</text></g>\n\
+        <path stroke='red' stroke-width='2' d='M132 48v34'/>\
+        <text fill='red' text-anchor='middle' x='132' y='96'>illegal 2</text>\n</svg>\n";
+    expect_mark(&rt, "timeline s t illegal 2", second)?;
+    expect_mark(&rt, "timeline s t 5 5 illegal 2", second)?;
+    Ok(())
+}
+
+#[test]
+fn a_missing_event_is_marked_behind_the_last(rt: HostRuntime) -> Result<(), Fail> {
+    let behind = b"<text x='127' y='12'>5</text></g>\n\
+        <path stroke='red' stroke-width='2' d='M140 48v34'/>\
+        <text fill='red' text-anchor='middle' x='140' y='96'>illegal 3</text>\n</svg>\n";
+    expect_mark(&rt, "timeline s t illegal 3", behind)?;
+    Ok(())
+}
+
+#[test]
+fn nothing_is_marked_that_is_not_drawn(rt: HostRuntime) -> Result<(), Fail> {
+    let none = b"<text x='127' y='12'>5</text></g>\n</svg>\n";
+    expect_mark(&rt, "timeline s t illegal 4", none)?;
+    expect_mark(&rt, "timeline s t legal", none)?;
+    expect_mark(&rt, "timeline s t 5 5 legal", none)?;
+    let trace = b"begin 4\nend 4\nbegin 5\ntick 5 dummy\n";
+    expect_end_of(&rt, "timeline s t 5 5 illegal 2", trace, none)?;
+    let third = b"<text x='127' y='12'>5</text></g>\n\
+        <path stroke='red' stroke-width='2' d='M132 48v34'/>\
+        <text fill='red' text-anchor='middle' x='132' y='96'>illegal 4</text>\n</svg>\n";
+    expect_end_of(&rt, "timeline s t 5 5 illegal 4", trace, third)?;
+    Ok(())
+}
+
 #[test]
 fn a_range_that_ends_beyond_the_trace_is_refused(rt: HostRuntime) -> Result<(), Fail> {
     let table = [
@@ -399,7 +442,7 @@ fn a_refusal_has_a_sentence_for_people(rt: HostRuntime) -> Result<(), Fail> {
         (
             "draw s",
             Status::Usage { word: 0 },
-            "usage: pipegraph-pictures graph SCRIPT [TRACE] | timeline SCRIPT TRACE [FROM TO] | wave FILE\n\
+            "usage: pipegraph-pictures graph SCRIPT [TRACE] | timeline SCRIPT TRACE [FROM TO] [VERDICT] | wave FILE\n\
                 version 0.1; the manual: man pipegraph-pictures where it is installed, and \
                 man -l docs/pipegraph-pictures.1\n",
         ),
@@ -481,8 +524,14 @@ fn a_refused_line_of_a_script_says_why(rt: HostRuntime) -> Result<(), Fail> {
             "a name, a port or a file word has the wrong form",
         ),
         (ScriptWhy::NameTaken, "the name is taken"),
-        (ScriptWhy::NameUnknown, "no node has this name"),
-        (ScriptWhy::PortUnknown, "the node has no such port"),
+        (
+            ScriptWhy::NameUnknown,
+            "no line before this one makes a node of this name",
+        ),
+        (
+            ScriptWhy::PortUnknown,
+            "the node has no such output, or no such input",
+        ),
         (
             ScriptWhy::QuantumLate,
             "quantum comes before every other command",
@@ -530,6 +579,13 @@ fn words_and_files_are_refused_by_cause(rt: HostRuntime) -> Result<(), Fail> {
         ("timeline s -t", usage(2), "usage 2\n"),
         ("timeline s t u", usage(3), "usage 3\n"),
         ("timeline s t 01 2", usage(3), "usage 3\n"),
+        ("timeline s t illegal", usage(4), "usage 4\n"),
+        ("timeline s t illegal 0", usage(4), "usage 4\n"),
+        ("timeline s t illegal 1 2", usage(5), "usage 5\n"),
+        ("timeline s t legal 1", usage(4), "usage 4\n"),
+        ("timeline s t 0 1 illegal", usage(6), "usage 6\n"),
+        ("timeline s t 0 1 line", usage(5), "usage 5\n"),
+        ("timeline s t 0 1 illegal 1 2", usage(7), "usage 7\n"),
         ("timeline s t 4294967296 4294967296", usage(3), "usage 3\n"),
         ("timeline s t 1", usage(4), "usage 4\n"),
         ("timeline s t 1 -2", usage(4), "usage 4\n"),

@@ -64,7 +64,10 @@ fn refuses<R: AllocGlobal + Abort + rt::Files>(
 #[test]
 fn a_file_that_is_refused_is_told_with_its_reason(rt: HostRuntime) -> Result<(), Fail> {
     let rows = [
-        (ErrorKind::NotADirectory, ": there is no such folder"),
+        (
+            ErrorKind::NotADirectory,
+            ": there is no such folder, or it can have no such file",
+        ),
         (ErrorKind::IsADirectory, ": it is a folder"),
         (
             ErrorKind::PermissionDenied,
@@ -77,13 +80,13 @@ fn a_file_that_is_refused_is_told_with_its_reason(rt: HostRuntime) -> Result<(),
         let read = format!(in rt.alloc(); "pipegraph-pods: \"a\": it cannot be read{why}\n")?;
         refuses(&rt, "gains a -", kind, 6, "", &read)?;
         refuses(&rt, "pod a b", kind, 6, "", &read)?;
-        let written =
-            format!(in rt.alloc(); "pipegraph-pods: \"b\": it cannot be written{why}\n")?;
+        let written = format!(in rt.alloc(); "pipegraph-pods: \"b\": it cannot be written{why}\n")?;
         refuses(&rt, "format b rate 1 channels 2", kind, 7, "", &written)?;
     }
     let absent = "pipegraph-pods: \"a\": there is no such file\n";
     refuses(&rt, "gains a b", ErrorKind::NotFound, 5, "", absent)?;
-    let folder = "pipegraph-pods: \"b\": it cannot be written: there is no such folder\n";
+    let folder = "pipegraph-pods: \"b\": it cannot be written: there is no such folder, or it can \
+        have no such file\n";
     let format = "format b rate 1 channels 2";
     refuses(&rt, format, ErrorKind::NotFound, 7, "", folder)?;
     Ok(())

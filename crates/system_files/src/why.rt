@@ -28,7 +28,7 @@ pub fn why_words(why: Option<FileWhy>) -> &'static [u8]
 {
     match why {
         None => b"",
-        Some(FileWhy::NoFolder) => b": there is no such folder",
+        Some(FileWhy::NoFolder) => b": there is no such folder, or it can have no such file",
         Some(FileWhy::Folder) => b": it is a folder",
         Some(FileWhy::Permission) => b": the system does not permit it",
         Some(FileWhy::Full) => b": no room is left",
