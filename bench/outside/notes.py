@@ -12,6 +12,7 @@ sink o o.wav
 gain g 256
 gain h 256
 """
+CHANGES = "no node changes a rate, but sox IN -r RATE OUT does"
 LATE = "it would close a loop, which only a link of an async node may"
 
 # Lines after START, what is put of their links, and what is noted of each at its line from 8 on.
@@ -19,11 +20,12 @@ LINKS = [
     ("link a.out o.in\n", "link a.out o.in 48000 1 2\n", []),
     ("link a.out o.in\nlink b.out o.in\n",
      "link a.out o.in 48000 1 2\nnolink b.out o.in 65539\n",
-     [(9, '"b.out" to "o.in" is no link: no common rate (key 65539)')]),
+     [(9, '"b.out" to "o.in" is no link: no common rate (key 65539): 44100 and 48000; '
+      + CHANGES)]),
     ("link a.out o.in\nlink c.out o.in\n",
      "link a.out o.in 48000 1 2\nnolink c.out o.in 65540\n",
-     [(9, '"c.out" to "o.in" is no link: no common channels (key 65540); '
-      'where one side has one channel and the other two, map NAME 1 0,0 makes two of one')]),
+     [(9, '"c.out" to "o.in" is no link: no common channels (key 65540): '
+      '2 and 1; map NAME 1 0,0 makes two channels of one')]),
     ("buffers a out 2\nbuffers o in 3\nlink a.out o.in\n", "nolink a.out o.in buffers\n",
      [(10, '"a.out" to "o.in" is no link: no number of buffers suits both ports'),
       (5, '"o" had no format at the end, so it does not write "o.wav"')]),
@@ -160,7 +162,8 @@ def once(place):
     """Notes on scripts that can be read only once."""
     script = (START + "link b.out o.in\nlink a.out o.in\ncycles 1\n").encode()
     text = b"link b.out o.in 44100 1 2\nnolink a.out o.in 65539\nwrote o 4\n"
-    said = b':9: "a.out" to "o.in" is no link: no common rate (key 65539)\n'
+    said = (b':9: "a.out" to "o.in" is no link: no common rate (key 65539): 48000 and 44100; '
+            + CHANGES.encode() + b"\n")
     place.feed("script.pipe", script)
     place.same("a named pipe", (0, text, b"pipegraph: script.pipe" + said),
                told(place, ["run", "script.pipe"]))

@@ -1,9 +1,12 @@
 //! What a run found, made of rows.
 
 use crate::found_plans::{nodes_of, script_of, told_of};
-use pw_graph::{LineOutcome, Plan};
+use format_filter::{Choice, Wide};
+use pod_codec::Pod;
+use pw_graph::{LineOutcome, Plan, PortId};
 use pw_lists::{Items, Memory, Text};
 use pw_top::{Content, Found, Store, What, Work};
+use refused_links::{RefusedLink, Sides};
 use std::alloc::Global;
 use wav_files::{Peak, Wav};
 
@@ -17,11 +20,79 @@ pub(crate) enum Seen {
     /// Of a run of a script: what its lines with two ends did, in their order, and the peaks of its
     /// meters.
     Run(&'static [LineOutcome], &'static [Peak]),
+    /// Of a run: what its lines with two ends did, and what both sides of refused links admit.
+    Parted(&'static [LineOutcome], &'static [Parted]),
     /// Of a trace: that it is legal, or its first line that is no event.
     Legal,
     NoEvent(u64),
     /// Of two objects that clash: the key.
     Clash(Option<u32>),
+}
+
+/// What an offer admits at a key: nothing where it does not have it.
+#[derive(Clone, Copy, Drop)]
+pub(crate) enum Side {
+    None,
+    Int(i32),
+    Id(u32),
+    From(i64, i64),
+}
+
+/// What both offers admit, or the offer of a port at odds with its node.
+#[derive(Clone, Copy, Drop)]
+pub(crate) enum Pair {
+    Both(Side, Side),
+    Node(PortId, Side, Option<u32>),
+}
+
+/// The line and the key of a refused link, and what both sides admit.
+pub(crate) type Parted = (u32, u32, Pair);
+
+// What an offer admits.
+fn choice_of(side: Side) -> Option<Choice> {
+    match side {
+        Side::None => None,
+        Side::Int(n) => Some(Choice::Only(Pod::Int(n))),
+        Side::Id(n) => Some(Choice::Only(Pod::Id(n))),
+        Side::From(min, max) => Some(Choice::Range {
+            wide: Wide::Int,
+            pick: min,
+            min,
+            max,
+        }),
+    }
+}
+
+// The two sides of a pair.
+fn sides_of(pair: Pair) -> Sides {
+    match pair {
+        Pair::Both(from, to) => Sides::Both {
+            from: choice_of(from),
+            to: choice_of(to),
+        },
+        Pair::Node(port, own, shared) => Sides::Node {
+            port,
+            own: choice_of(own),
+            shared,
+        },
+    }
+}
+
+// The refused links of rows, whose ends and places no note asks for.
+fn refused_of(alloc: Global, rows: &[Parted]) -> Result<Items<RefusedLink>, Memory> {
+    let end = PortId { node: 0, port: 0 };
+    let mut refused = Items::new(alloc);
+    for (line, key, pair) in rows {
+        refused.push(RefusedLink {
+            line: *line,
+            place: 0,
+            from: end,
+            to: end,
+            key: *key,
+            sides: sides_of(*pair),
+        })?;
+    }
+    Ok(refused)
 }
 
 // Bytes that may be at hand.
@@ -68,6 +139,7 @@ fn run_of(
     script: &[u8],
     outcomes: &[LineOutcome],
     peaks: &[Peak],
+    parted: &[Parted],
 ) -> Result<What, Memory> {
     let script = script_of(alloc, script)?;
     let nodes = nodes_of(alloc, &script)?;
@@ -83,7 +155,7 @@ fn run_of(
         script,
         plan,
         peaks,
-        refused: Items::new(alloc),
+        refused: refused_of(alloc, parted)?,
     })
 }
 
@@ -93,7 +165,11 @@ pub(crate) fn what_of(alloc: Global, script: Option<&[u8]>, seen: Seen) -> Resul
         Seen::Nothing => Ok(What::Nothing),
         Seen::Run(outcomes, peaks) => match script {
             None => Ok(What::Nothing),
-            Some(script) => run_of(alloc, script, outcomes, peaks),
+            Some(script) => run_of(alloc, script, outcomes, peaks, &[]),
+        },
+        Seen::Parted(outcomes, parted) => match script {
+            None => Ok(What::Nothing),
+            Some(script) => run_of(alloc, script, outcomes, &[], parted),
         },
         Seen::Legal => Ok(What::Check {
             names: Items::new(alloc),

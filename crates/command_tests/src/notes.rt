@@ -2,9 +2,9 @@
 //! sinks of one file, of a source's file, without frames and with samples at a limit, and what a
 //! check and a filter find. The texts that were put say other things, which no note takes over.
 
-use crate::found_values::{Seen, Stored, found_of, what_of};
+use crate::found_values::{Pair, Seen, Side, Stored, found_of, what_of};
 use fault_messages::explain;
-use pw_graph::LineOutcome;
+use pw_graph::{LineOutcome, PortId};
 use pw_lists::{Memory, Text};
 use pw_top::Status;
 use row_files::words_of;
@@ -113,6 +113,49 @@ const LINKS: &'static [Noted] = &[
         notes: b"pipegraph: t.graph:3: \"s.out\" to \"m.in\" is no link: \
             no common channels (key 65540); \
             where one side has one channel and the other two, map NAME 1 0,0 makes two of one\n",
+        ..RUN
+    },
+    // Both sides of refused links: an entry of another line, and one of another key, say nothing.
+    Noted {
+        script: Some(
+            b"gain a 1\ngain b 1\nlink a.out b.in\nlink a.out b.in\nlink a.out b.in\n\
+            link a.out b.in\nlink a.out b.in\nlink a.out b.in\n",
+        ),
+        seen: Seen::Parted(
+            &[
+                LineOutcome::NoFormat { key: 65_539 },
+                CHANNELS,
+                CHANNELS,
+                CHANNELS,
+                LineOutcome::NoFormat { key: 65_539 },
+                LineOutcome::NoFormat { key: 1 },
+            ],
+            &[
+                (4, 65_540, Pair::Both(Side::Int(2), Side::Int(1))),
+                (3, 65_540, Pair::Both(Side::Int(2), Side::Int(1))),
+                (3, 65_539, Pair::Both(Side::Int(44_100), Side::None)),
+                (5, 65_540, Pair::Both(Side::Id(1), Side::Int(2))),
+                (6, 65_540, Pair::Both(Side::None, Side::From(2, 8))),
+                (
+                    7,
+                    65_539,
+                    Pair::Node(PortId { node: 0, port: 1 }, Side::None, None),
+                ),
+            ],
+        ),
+        notes: b"pipegraph: t.graph:3: \"a.out\" to \"b.in\" is no link: \
+            no common rate (key 65539): 44100 and none; \
+            no node changes a rate, but sox IN -r RATE OUT does\n\
+            pipegraph: t.graph:4: \"a.out\" to \"b.in\" is no link: \
+            no common channels (key 65540): 2 and 1; map NAME 1 0,0 makes two channels of one\n\
+            pipegraph: t.graph:5: \"a.out\" to \"b.in\" is no link: \
+            no common channels (key 65540): 1 and 2\n\
+            pipegraph: t.graph:6: \"a.out\" to \"b.in\" is no link: \
+            no common channels (key 65540): none and 2 to 8\n\
+            pipegraph: t.graph:7: \"a.out\" to \"b.in\" is no link: \
+            no common rate (key 65539): \"a.out\" admits none, and its node has none\n\
+            pipegraph: t.graph:8: \"a.out\" to \"b.in\" is no link: \
+            no common media type (key 1)\n",
         ..RUN
     },
     // Ports of every place, and a command of two parts.

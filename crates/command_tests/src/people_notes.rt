@@ -3,6 +3,9 @@
 use crate::people::{Asked, RUN, first_unlike};
 use row_files::Held;
 
+/// A format whose rate is 48000.
+const RATE: Held<'static> = Held::Words(&[32, 15, 262147, 3, 65539, 0, 4, 4, 48000, 0]);
+
 /// A format whose channels are 1, and objects of type 0x40002 with keys that formats have.
 const CHANNELS: Held<'static> = Held::Words(&[32, 15, 262147, 3, 65540, 0, 4, 4, 1, 0]);
 
@@ -19,10 +22,38 @@ const NOTES: &'static [Asked] = &[
             link a.out m.in\n",
         code: 0,
         out: b"link c.out m.in 48000 2 2\nnolink a.out m.in 65540\npeak m 0\n",
-        said: b"s.graph:5: \"a.out\" to \"m.in\" is no link: no common channels (key 65540); \
-            where one side has one channel and the other two, map NAME 1 0,0 makes two of one\n\
+        said: b"s.graph:5: \"a.out\" to \"m.in\" is no link: no common channels (key 65540): \
+            1 and 2; map NAME 1 0,0 makes two channels of one\n\
             pipegraph: s.graph:3: \"m\" got no frames, so its peak is 0: \
             the script has no cycles line and no drain line",
+        ..RUN
+    },
+    Asked {
+        script: b"square a 44100 1 2 5\nsquare b 48000 1 2 5\nmix2 m 256 256\nlink a.out m.a\n\
+            link b.out m.b\n",
+        code: 0,
+        out: b"link a.out m.a 44100 1 2\nnolink b.out m.b 65539\n",
+        said: b"s.graph:5: \"b.out\" to \"m.b\" is no link: no common rate (key 65539): \
+            48000 and 44100; no node changes a rate, but sox IN -r RATE OUT does",
+        ..RUN
+    },
+    Asked {
+        script: b"square a 48000 6 2 5\nsplit p\nlink a.out p.in\n",
+        code: 0,
+        out: b"nolink a.out p.in 65540\n",
+        said: b"s.graph:3: \"a.out\" to \"p.in\" is no link: no common channels (key 65540): \
+            6 and 2",
+        ..RUN
+    },
+    Asked {
+        script: b"square a 44100 1 2 5\ngain g 256\noffer g out f.pod\nmeter p\n\
+            link a.out g.in\nlink g.out p.in\n",
+        files: &[("f.pod", RATE)],
+        code: 0,
+        out: b"link a.out g.in 44100 1 2\nnolink g.out p.in 65539\nunused p\n",
+        said: b"s.graph:6: \"g.out\" to \"p.in\" is no link: no common rate (key 65539): \
+            \"g.out\" admits 48000, and its node has 44100\n\
+            pipegraph: s.graph:4: \"p\" had no format at the end, so it has no peak",
         ..RUN
     },
     Asked {

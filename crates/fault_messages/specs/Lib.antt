@@ -26,6 +26,7 @@ pub mod Places
 pub mod PodMessages
 pub mod PortEnds
 pub mod ReasonNotes
+pub mod RefusedSides
 pub mod ScriptLines
 pub mod ScriptMessages
 pub mod ScriptWords

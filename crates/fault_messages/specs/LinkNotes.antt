@@ -7,10 +7,12 @@ use Rattle.pw_graph.specs.declared.plan.LineOutcome.TheVariants as O
 use Rattle.pw_graph.specs.declared.plan.LinkLine.{LinkLine}
 use Rattle.pw_graph.specs.declared.plan.PlanNode.{PlanNode}
 use Rattle.graph_script.specs.declared.script.Line.{Line}
+use Rattle.refused_links.specs.declared.refused_link.RefusedLink.{RefusedLink}
 use Rattle.fault_messages.specs.KeyNames.{clash_said}
 use Rattle.fault_messages.specs.LinkEnds.{quoted_end}
 use Rattle.fault_messages.specs.NoteHeads.{note_at}
 use Rattle.fault_messages.specs.Places.{Words}
+use Rattle.fault_messages.specs.RefusedSides.{entry_of, sides_part}
 use Rattle.fault_messages.specs.ScriptLines.{has_ends}
 
 -- of a loop: both ends are of one node, or a way leads back
@@ -19,13 +21,6 @@ loop_said link =
     if link.from.node == link.to.node then codes "a node is not linked to itself"
     else codes "it would close a loop, which only a link of an async node may"
 
--- of a key: of channels, what makes two of one
-abbrev pub map_part : ℕ → List ℕ
-map_part key =
-    if key == 65540
-    then codes "; where one side has one channel and the other two, map NAME 1 0,0 makes two of one"
-    else []
-
 -- whether a link is not made, and the cause; nothing of lines that did what they ask for
 abbrev pub is_refused : LineOutcome → Bool
 is_refused (O.Linked rate channels buffers) = false
@@ -33,28 +28,35 @@ is_refused O.Gone = false
 is_refused O.NotThere = false
 is_refused _ = true
 
-abbrev pub cause_said : LinkLine → LineOutcome → List ℕ
-cause_said link (O.NoFormat key) = clash_said key ++ map_part key
-cause_said link O.NoBuffers = codes "no number of buffers suits both ports"
-cause_said link O.Looped = loop_said link
-cause_said link O.Twice = codes "it is there already"
-cause_said link (O.Linked rate channels buffers) = []
-cause_said link O.Gone = []
-cause_said link O.NotThere = []
+-- of a key: what both sides admit there
+abbrev pub key_cause : List PlanNode → List RefusedLink → ℕ → ℕ → List ℕ
+key_cause nodes refused n key = clash_said key ++ sides_part nodes key (entry_of refused n key)
+
+abbrev pub cause_said : List PlanNode → List RefusedLink → ℕ → LinkLine → LineOutcome → List ℕ
+cause_said nodes refused n link (O.NoFormat key) = key_cause nodes refused n key
+cause_said nodes refused n link O.NoBuffers = codes "no number of buffers suits both ports"
+cause_said nodes refused n link O.Looped = loop_said link
+cause_said nodes refused n link O.Twice = codes "it is there already"
+cause_said nodes refused n link (O.Linked rate channels buffers) = []
+cause_said nodes refused n link O.Gone = []
+cause_said nodes refused n link O.NotThere = []
 
 unfoldable pub ends_head : List PlanNode → LinkLine → List ℕ
 ends_head nodes link = quoted_end nodes link.from
     ++ (codes " to " ++ (quoted_end nodes link.to ++ codes " is no link: "))
 
-abbrev pub refused_said : List PlanNode → LinkLine → List ℕ
-refused_said nodes link = ends_head nodes link ++ cause_said link link.outcome
+abbrev pub refused_said : List PlanNode → List RefusedLink → ℕ → LinkLine → List ℕ
+refused_said nodes refused n link =
+    ends_head nodes link ++ cause_said nodes refused n link link.outcome
 
 -- the note on a line of the script, by its number and by what it did
-abbrev pub link_note : Words → List PlanNode → ℕ → LinkLine → List ℕ
-link_note words nodes n link =
-    if is_refused link.outcome then note_at words n (refused_said nodes link) else []
+abbrev pub link_note : Words → List PlanNode → List RefusedLink → ℕ → LinkLine → List ℕ
+link_note words nodes refused n link =
+    if is_refused link.outcome then note_at words n (refused_said nodes refused n link) else []
 
 -- THE NOTES ON LINKS: the lines with two ends and what they did have one order
-abbrev pub link_notes : Words → List PlanNode → List Line → List LinkLine → List ℕ
-link_notes words nodes lines links = flat_map (λ p. link_note words nodes p.0.line p.1)
+abbrev pub link_notes : Words → List PlanNode → List RefusedLink → List Line → List LinkLine
+    → List ℕ
+link_notes words nodes refused lines links =
+    flat_map (λ p. link_note words nodes refused p.0.line p.1)
     (zip (filter (λ line. has_ends line.command) lines) links)

@@ -5,6 +5,7 @@ use Rattle.pw_graph.specs.declared.event.Event.{Event}
 use Rattle.pw_graph.specs.declared.plan.Plan.{Plan}
 use Rattle.wav_files.specs.declared.outcome.Peak.{Peak}
 use Rattle.graph_script.specs.declared.script.Script.{Script}
+use Rattle.refused_links.specs.declared.refused_link.RefusedLink.{RefusedLink}
 use Rattle.trace_check.specs.declared.reasons.Reason.{Reason}
 use Rattle.command_frame.specs.declared.work.Work.{Work}
 use Rattle.run_results.specs.declared.found.What.{What}
@@ -19,10 +20,10 @@ use Rattle.fault_messages.specs.ReasonNotes.{reason_note}
 use Rattle.fault_messages.specs.SinkNotes.{sink_notes}
 
 -- of a run: its links, then its sinks and meters
-abbrev pub run_notes : Words → Script → Plan → List Peak → Option Work → List ℕ
-run_notes words script plan peaks None = []
-run_notes words script plan peaks (Some work) =
-    link_notes words plan.nodes script.lines plan.lines
+abbrev pub run_notes : Words → Script → Plan → List Peak → List RefusedLink → Option Work → List ℕ
+run_notes words script plan peaks refused None = []
+run_notes words script plan peaks refused (Some work) =
+    link_notes words plan.nodes refused script.lines plan.lines
     ++ sink_notes words script work.stores peaks
 
 -- of a check: the reason, where there is one; and a line of the trace that is no event
@@ -54,7 +55,7 @@ work_note words (Some work) = stored_note words work.stores
 -- THE NOTES, by what was found and what was stored
 abbrev pub notes : Words → What → Option Work → List ℕ
 notes words W.Nothing work = work_note words work
-notes words (W.Run script plan peaks refused) work = run_notes words script plan peaks work
+notes words (W.Run script plan peaks refused) work = run_notes words script plan peaks refused work
 notes words (W.Check names reason event) work = check_note words names reason event
 notes words (W.NoEvent n) work = trace_note words n no_event
 notes words (W.Clash key) work = clash_note words key

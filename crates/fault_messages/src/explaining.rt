@@ -99,10 +99,12 @@ fn put_noted(
 /// The message of a status in words, by what the run found, by why the system refused a file, where
 /// it did and that is known, and by the words of the command line without the program's name. Where
 /// the status names a line of a script, the message has the names of that line. Where all was done,
-/// it has a note for each link that was not made, for each sink and meter without a format, for
-/// each sink without frames or with samples at a limit of 16 bits, for each meter of a script that
-/// makes no cycles, for each sink whose file a later one writes or a source reads, and for what a
-/// check or a filter found. Nothing is loaded.
+/// it has a note for each link that was not made, with what both sides admit where that is known,
+/// for each sink and meter without a format, for each sink without frames or with samples at a
+/// limit of 16 bits, for each meter of a script that makes no cycles, for each sink whose file a
+/// later one writes or a source reads, or whose name has a quote or is a dash, for samples at a
+/// limit of a wave that another command stored, and for what a check or a filter found. Nothing is
+/// loaded.
 #[tactic(auto, unfolding(crate::specs::Explaining::explained))]
 pub fn explain(
     alloc: Global,

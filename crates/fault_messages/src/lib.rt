@@ -33,6 +33,7 @@ mod pod_messages;
 mod port_ends;
 mod putting;
 mod reason_notes;
+mod refused_sides;
 mod script_lines;
 mod script_messages;
 mod sentences;

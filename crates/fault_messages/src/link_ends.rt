@@ -51,8 +51,8 @@ fn put_quoted_end(text: &mut Text, nodes: &[PlanNode], at: PortId) -> Result<(),
     put_in_quotes(text, nodes.get(at.node as usize), at.port)
 }
 
-// An end in quotes, with words after it.
-fn put_end_behind(
+/// An end in quotes, with words after it.
+pub fn put_end_behind(
     text: &mut Text,
     nodes: &[PlanNode],
     at: PortId,

@@ -1,19 +1,17 @@
 //! Why links were not made, in words.
 ghost use Rattle.std.specs.Prelude.{◌≡◌, ◌++◌, map, string_bytes, OnOk};
-ghost use Rattle.fault_messages.specs.LinkNotes.{loop_said, map_part, is_refused, cause_said, ends_head, refused_said, link_note, link_notes};
-ghost use Rattle.fault_messages.specs.KeyNames.{clash_said};
+ghost use Rattle.fault_messages.specs.LinkNotes.{loop_said, key_cause, is_refused, cause_said, ends_head, refused_said, link_note, link_notes};
 ghost use Rattle.fault_messages.specs.working.LinkSteps.{first_note, link_part, links_after, links_behind};
 
 use crate::key_names::put_clash;
 use crate::link_ends::put_two_ends;
 use crate::note_heads::put_note_head;
+use crate::refused_sides::put_sides;
 use crate::script_lines::has_ends;
 use graph_script::Line;
 use pw_graph::{LineOutcome, LinkLine, PlanNode};
 use pw_lists::{Memory, Text};
-
-/// The key of the channels of a format.
-const CHANNELS_KEY: u32 = 65540;
+use refused_links::RefusedLink;
 
 // Of a loop.
 fn loop_said(link: LinkLine) -> &'static [u8]
@@ -26,23 +24,18 @@ fn loop_said(link: LinkLine) -> &'static [u8]
     }
 }
 
-// What makes two channels of one, where the key is that of the channels.
-fn map_part(key: u32) -> &'static [u8]
-    ensures { result.now ≡ map_part key }
-{
-    if key == CHANNELS_KEY {
-        b"; where one side has one channel and the other two, map NAME 1 0,0 makes two of one"
-    } else {
-        b""
-    }
-}
-
 // A key under which the formats have nothing in common.
-fn put_key_cause(text: &mut Text, key: u32) -> Result<(), Memory>
-    ensures { OnOk result (text.new ≡ text.old ++ (clash_said key ++ map_part key)) }
+fn put_key_cause(
+    text: &mut Text,
+    nodes: &[PlanNode],
+    refused: &[RefusedLink],
+    number: u32,
+    key: u32,
+) -> Result<(), Memory>
+    ensures { OnOk result (text.new ≡ text.old ++ key_cause nodes.now refused.now number key) }
 {
     put_clash(text, key)?;
-    text.extend(map_part(key))
+    put_sides(text, nodes, refused, number, key)
 }
 
 // Whether the link of a line is not made.
@@ -59,11 +52,18 @@ fn is_refused(outcome: LineOutcome) -> bool
 }
 
 // The cause of a link that is not made; nothing of another line.
-fn put_cause(text: &mut Text, link: LinkLine) -> Result<(), Memory>
-    ensures { OnOk result (text.new ≡ text.old ++ cause_said link link.outcome) }
+fn put_cause(
+    text: &mut Text,
+    nodes: &[PlanNode],
+    refused: &[RefusedLink],
+    number: u32,
+    link: LinkLine,
+) -> Result<(), Memory>
+    ensures { OnOk result (text.new ≡ text.old
+        ++ cause_said nodes.now refused.now number link link.outcome) }
 {
     match link.outcome {
-        LineOutcome::NoFormat { key } => put_key_cause(text, key),
+        LineOutcome::NoFormat { key } => put_key_cause(text, nodes, refused, number, key),
         LineOutcome::NoBuffers => text.extend(b"no number of buffers suits both ports"),
         LineOutcome::Looped => text.extend(loop_said(link)),
         LineOutcome::Twice => text.extend(b"it is there already"),
@@ -83,18 +83,19 @@ fn put_link_note(
     text: &mut Text,
     words: &[String],
     nodes: &[PlanNode],
+    refused: &[RefusedLink],
     number: u32,
     link: LinkLine,
 ) -> Result<(), Memory>
     ensures { OnOk result (text.new ≡ text.old
-        ++ link_note (map string_bytes words.now) nodes.now number link) }
+        ++ link_note (map string_bytes words.now) nodes.now refused.now number link) }
 {
     if !is_refused(link.outcome) {
         return Ok(());
     }
     put_note_head(text, words, number)?;
     put_ends_head(text, nodes, link)?;
-    put_cause(text, link)?;
+    put_cause(text, nodes, refused, number, link)?;
     text.extend(b"\n")
 }
 
@@ -103,18 +104,19 @@ fn put_link_part(
     text: &mut Text,
     words: &[String],
     nodes: &[PlanNode],
+    refused: &[RefusedLink],
     line: &Line,
     links: &[LinkLine],
 ) -> Result<(), Memory>
     ensures { OnOk result (text.new ≡ text.old
-        ++ link_part (map string_bytes words.now) nodes.now line.now links.now) }
+        ++ link_part (map string_bytes words.now) nodes.now refused.now line.now links.now) }
 {
     if !has_ends(&line.command) {
         return Ok(());
     }
     match links {
         [] => Ok(()),
-        [link, ..] => put_link_note(text, words, nodes, line.line, *link),
+        [link, ..] => put_link_note(text, words, nodes, refused, line.line, *link),
     }
 }
 
@@ -132,20 +134,22 @@ fn links_behind<'a>(line: &Line, links: &'a [LinkLine]) -> &'a [LinkLine]
 }
 
 /// Why links of a script were not made, a note for each, by the plan's nodes, by the lines of the
-/// script, and by what those with two ends did, in their order.
+/// script, by what those with two ends did, in their order, and by what both sides of those that
+/// found no format admit.
 pub fn put_link_notes(
     text: &mut Text,
     words: &[String],
     nodes: &[PlanNode],
+    refused: &[RefusedLink],
     lines: &[Line],
     links: &[LinkLine],
 ) -> Result<(), Memory>
     ensures { OnOk result (text.new ≡ text.old
-        ++ link_notes (map string_bytes words.now) nodes.now lines.now links.now) }
+        ++ link_notes (map string_bytes words.now) nodes.now refused.now lines.now links.now) }
 {
     let mut left = links;
     for line in lines {
-        put_link_part(text, words, nodes, line, left)?;
+        put_link_part(text, words, nodes, refused, line, left)?;
         left = links_behind(line, left);
     }
     Ok(())

@@ -14,6 +14,7 @@ use crate::sink_notes::put_sink_notes;
 use graph_script::Script;
 use pw_graph::{Event, Plan};
 use pw_lists::{Memory, Text};
+use refused_links::RefusedLink;
 use run_results::{What, Work};
 use trace_check::Reason;
 use wav_files::Peak;
@@ -25,16 +26,18 @@ fn put_run_notes(
     script: &Script,
     plan: &Plan,
     peaks: &[Peak],
+    refused: &[RefusedLink],
     work: &Option<Work>,
 ) -> Result<(), Memory>
     ensures { OnOk result (text.new ≡ text.old
-        ++ run_notes (map string_bytes words.now) script.now plan.now peaks.now work.now) }
+        ++ run_notes (map string_bytes words.now) script.now plan.now peaks.now refused.now
+        work.now) }
 {
     match work {
         None => Ok(()),
         Some(work) => {
             let (nodes, links) = (plan.nodes.as_slice(), plan.lines.as_slice());
-            put_link_notes(text, words, nodes, script.lines.as_slice(), links)?;
+            put_link_notes(text, words, nodes, refused, script.lines.as_slice(), links)?;
             put_sink_notes(text, words, script, work.stores.as_slice(), peaks)
         }
     }
@@ -130,8 +133,11 @@ pub fn put_notes(
             script,
             plan,
             peaks,
-            ..
-        } => put_run_notes(text, words, script, plan, peaks.as_slice(), work),
+            refused,
+        } => {
+            let (peaks, refused) = (peaks.as_slice(), refused.as_slice());
+            put_run_notes(text, words, script, plan, peaks, refused, work)
+        }
         What::Check {
             names,
             reason,

@@ -9,13 +9,14 @@ pub loop-line-preserved : goal.loop-line-preserved
 loop-line-preserved c =
     let words = map string_bytes c.args.words.now in
     let nodes = c.args.nodes.now in
+    let refused = c.args.refused.now in
     let text = c.loop-line.text in
     let left = c.loop-line.left.now in
     let line = c.line-item.result in
     let rest = drop (c.loop-line.line-index + 1) c.args.lines.now in
-    ap (λ t. t ++ link_notes words nodes rest c.links_behind-left.result.now) c.in_ok-put_link_part.ensures
-    ∙ (ap (λ ls. text ++ link_part words nodes line left ++ link_notes words nodes rest ls) c.links_behind-left.ensures
-    ∙ (sym (more_links words nodes text line rest left)
-    ∙ (ap (λ first. text ++ link_notes words nodes (first ∷ rest) left) c.line-item.is
-    ∙ (sym (at_drop_more (λ ls. text ++ link_notes words nodes ls left) c.args.lines.now c.loop-line.line-index line c.loop-line-test.true)
+    ap (λ t. t ++ link_notes words nodes refused rest c.links_behind-left.result.now) c.in_ok-put_link_part.ensures
+    ∙ (ap (λ ls. text ++ link_part words nodes refused line left ++ link_notes words nodes refused rest ls) c.links_behind-left.ensures
+    ∙ (sym (more_links words nodes refused text line rest left)
+    ∙ (ap (λ first. text ++ link_notes words nodes refused (first ∷ rest) left) c.line-item.is
+    ∙ (sym (at_drop_more (λ ls. text ++ link_notes words nodes refused ls left) c.args.lines.now c.loop-line.line-index line c.loop-line-test.true)
     ∙ c.loop-line.invariant))))

@@ -5,5 +5,5 @@ use Rattle.fault_messages.proofs.link_notes.put_link_notes.Given as goal
 -- the notes so far, and those of the lines that are left
 abbrev pub invariant-loop-line : goal.invariant-loop-line
 invariant-loop-line l =
-    l.text ++ link_notes (map string_bytes l.words) l.nodes (drop l.line-index l.lines) l.left
-    ≡ l.fn.text ++ link_notes (map string_bytes l.words) l.nodes l.lines l.links
+    l.text ++ link_notes (map string_bytes l.words) l.nodes l.refused (drop l.line-index l.lines) l.left
+    ≡ l.fn.text ++ link_notes (map string_bytes l.words) l.nodes l.refused l.lines l.links
