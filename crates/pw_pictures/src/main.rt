@@ -9,17 +9,19 @@ mod tests;
 #[cfg(test)]
 mod waves;
 
-use program::run_read;
+use program::Pictures;
+use program_exit::run_read;
 use std::process::ExitCode;
 use system_files::{DiskFiles, StdSink, read_words};
 
 fn main(rt: HostRuntime) -> ExitCode {
     ExitCode::from(
         run_read(
+            &Pictures,
             rt.alloc(),
             read_words(&rt),
-            &mut DiskFiles::new(&rt),
-            &mut StdSink::new(&rt),
+            DiskFiles::new(&rt),
+            StdSink::new(&rt),
             &mut StdSink::new(&rt.stderr()),
         )
         .code,

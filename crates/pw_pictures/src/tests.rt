@@ -1,8 +1,9 @@
 //! What is printed of words and files.
 
-use crate::program::run_read;
+use crate::program::Pictures;
 use graph_pictures::{Status, explain, print_picture};
 use graph_script::ScriptWhy;
+use program_exit::run_read;
 use pw_lists::{Items, Memory, Text, Which};
 use pw_outside::{MemSink, SureFiles, SureSink};
 use std::alloc::Global;
@@ -678,14 +679,14 @@ fn comes_to<R: AllocGlobal + Abort>(
     let alloc = rt.alloc();
     let mut files = SureFiles::new(alloc)?;
     files.add_file(alloc, &text(alloc, "g")?, b"gain a 01\n".as_slice())?;
-    let (mut given, mut told) = (SureSink::new(alloc)?, MemSink::new(alloc)?);
+    let (given, mut told) = (SureSink::new(alloc)?, MemSink::new(alloc)?);
     if let Some(bytes) = fails {
         told.fail_put(alloc, 1, bytes)?;
     }
-    let exit = run_read(alloc, words, &mut files, &mut given, &mut told);
+    let exit = run_read(&Pictures, alloc, words, files, given, &mut told);
     assert_eq!(rt; exit.code, code);
     assert_eq!(rt; exit.said.is_ok(), fails.is_none());
-    assert!(rt; given.bytes().as_slice() == out.as_bytes(), "{out}");
+    assert!(rt; exit.out.bytes().as_slice() == out.as_bytes(), "{out}");
     assert!(rt; told.bytes().as_slice() == errors.as_bytes(), "{errors}");
     Ok(())
 }

@@ -7,19 +7,21 @@ mod refused;
 #[cfg(test)]
 mod tests;
 
-use program::run_read;
+use program::Pods;
+use program_exit::run_read;
 use std::process::ExitCode;
 use system_files::{DiskFiles, StdSink, read_words};
 
 fn main(rt: HostRuntime) -> ExitCode {
     ExitCode::from(
         run_read(
+            &Pods,
             rt.alloc(),
             read_words(&rt),
-            &mut DiskFiles::new(&rt),
-            &mut StdSink::new(&rt),
+            DiskFiles::new(&rt),
+            StdSink::new(&rt),
             &mut StdSink::new(&rt.stderr()),
         )
-        .number,
+        .code,
     )
 }

@@ -1,7 +1,8 @@
 //! What is said of a file that the system refuses, by its reason.
 
-use crate::program::run_read;
+use crate::program::Pods;
 use crate::tests::words_of;
+use program_exit::run_read;
 use pw_lists::Memory;
 use pw_outside::SureSink;
 use std::io::ErrorKind;
@@ -49,14 +50,14 @@ fn refuses<R: AllocGlobal + Abort + rt::Files>(
 ) -> Result<(), Memory> {
     let alloc = rt.alloc();
     let words = words_of(alloc, line)?;
-    let mut files = DiskFiles::over(RefusingDisk {
+    let files = DiskFiles::over(RefusingDisk {
         kind,
         of: PhantomData::<R>,
     });
-    let (mut given, mut told) = (SureSink::new(alloc)?, SureSink::new(alloc)?);
-    let exit = run_read(alloc, Ok(words), &mut files, &mut given, &mut told);
-    assert_eq!(rt; exit.number, code);
-    assert!(rt; given.bytes().as_slice() == out.as_bytes(), "{line}");
+    let (given, mut told) = (SureSink::new(alloc)?, SureSink::new(alloc)?);
+    let exit = run_read(&Pods, alloc, Ok(words), files, given, &mut told);
+    assert_eq!(rt; exit.code, code);
+    assert!(rt; exit.out.bytes().as_slice() == out.as_bytes(), "{line}");
     assert!(rt; told.bytes().as_slice() == said.as_bytes(), "{said}");
     Ok(())
 }

@@ -1,8 +1,9 @@
 //! What is stored and said of words and lists.
 
-use crate::program::run_read;
+use crate::program::Pods;
 use control_sequence::Point;
 use pod_text::{DumpWhy, ListWhy, Status, make_pod, read_gains};
+use program_exit::run_read;
 use pw_lists::{Items, Memory, Text};
 use pw_outside::{Files, Loaded, MemFiles, MemSink, SureFiles, SureSink};
 use std::alloc::Global;
@@ -604,11 +605,11 @@ fn ends<R: AllocGlobal + Abort>(
     if fails {
         files.fail_load(alloc, 1)?;
     }
-    let (mut out, mut errors) = (SureSink::new(alloc)?, SureSink::new(alloc)?);
-    let exit = run_read(alloc, words, &mut files, &mut out, &mut errors);
-    assert!(rt; exit.number == number, "{said}");
+    let (out, mut errors) = (SureSink::new(alloc)?, SureSink::new(alloc)?);
+    let exit = run_read(&Pods, alloc, words, files, out, &mut errors);
+    assert!(rt; exit.code == number, "{said}");
     assert!(rt; exit.said == Ok(()), "{said}");
-    assert!(rt; out.bytes().as_slice() == put, "{said}");
+    assert!(rt; exit.out.bytes().as_slice() == put, "{said}");
     assert!(rt; errors.bytes().as_slice() == said.as_bytes(), "{said}");
     Ok(())
 }

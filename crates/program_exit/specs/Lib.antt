@@ -1,0 +1,3 @@
+pub mod Said
+pub mod Sentence
+pub mod Exit
