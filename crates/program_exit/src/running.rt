@@ -22,6 +22,7 @@ pub fn run_read<U: Utility, F: Files + TellsWhy, O: Sink, E: Sink>(
     out: O,
     errors: &mut E,
 ) -> Exit<F, O, U::Left>
+    requires can { U.can_run utility.now }
     // The program has done what its words ask for, and the sentence of that is put.
     ensures ended { IfOk words (λ read. HasEnded (U.has_done (map string_bytes read)
         (outside F.Files O.Sink files out) (outside F.Files O.Sink result.files result.out)

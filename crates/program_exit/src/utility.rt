@@ -30,6 +30,9 @@ pub trait Utility {
     /// What it leaves beside files and output.
     type Left: Drop;
 
+    // What has to be so for it to run: as that its threads may share what it runs by.
+    ghost can_run: { Self → Type 0 };
+
     // What it has done: by its words, by the outside before and after, by why the files say that
     // their last load or store failed, and by what it left; with which number and which sentence.
     ghost has_done: { Words → Outside → Outside → Option FileWhy → Self.Left → ℕ → List ℕ → Type 0 };
@@ -46,6 +49,7 @@ pub trait Utility {
         files: F,
         out: O,
     ) -> Done<F, O, Self::Left>
+        requires can { can_run self.now }
         ensures { IsMade (has_done (map string_bytes words.now) (outside F.Files O.Sink files out)
             (outside F.Files O.Sink result.files result.out) (F.why result.files) result.left
             result.code) result.sentence };

@@ -18,6 +18,8 @@ impl Utility for Pictures {
 
     type Left = ();
 
+    ghost can_run = { λ _. Unit {0} };
+
     ghost has_done = { λ words before now why left code sentence. HasPrinted words before now why code sentence };
 
     ghost refusal = { unread_message (codes "pipegraph-pictures") };
