@@ -1,7 +1,6 @@
 -- The ticker of a run: how many asks there are from one late check to the next, 0 where there is no
 -- ticker; and its count of checks. Source: this project's own.
 use Rattle.std.specs.Prelude.{ℕ}
-use Rattle.pw_outside.specs.declared.every.Every.{Every}
 use Rattle.pw_program.specs.declared.asking.Asked.{Asked}
 use Rattle.pw_program.specs.declared.asking.Asked.TheVariants as A
 

@@ -1,3 +1,3 @@
 pub mod Asking
-pub mod Exit
 pub mod Program
+pub mod Exit

@@ -2,19 +2,22 @@
 -- or notes on the error output. Source: this project's own.
 use Rattle.std.specs.Prelude.{◌≡◌, ℕ, List, Option, Result}
 use Rattle.pw_outside.specs.declared.files.FileFail.{FileFail}
-use Rattle.pw_outside.specs.declared.output.Sink as sink
-use Rattle.pw_outside.specs.Causes.{HasCause}
-use Rattle.pw_outside.specs.Output.{Given, IsPut}
+use Rattle.command_frame.specs.Outside as frame
+use Rattle.program_exit.specs.Said.{ErrorOutput, IsSaid}
 use Rattle.run_results.specs.declared.found.Found.{Found}
 use Rattle.run_results.specs.declared.status.Status.{Status}
+use Rattle.run_results.specs.StatusNumbers.{status_number}
+use Rattle.pw_top.specs.FaultCauses.{Caused, IsUsage}
 use Rattle.pw_top.specs.Found.{IsFound}
 use Rattle.pw_top.specs.Headline.{IsTold}
 use Rattle.pw_top.specs.Outside.{Outside}
 use Rattle.pw_top.specs.Playing.{Happened}
-use Rattle.pw_top.specs.Usage.{Words}
+use Rattle.pw_top.specs.Usage.{Words, command_of, ticks_in}
 use Rattle.pw_top.specs.WorkFound.{IsWorkFound}
 use Rattle.fault_messages.specs.Explaining.{explained}
 use Rattle.system_files.specs.declared.why.FileWhy.{FileWhy}
+use Rattle.pw_program.specs.declared.asking.Asked.{Asked}
+use Rattle.pw_program.specs.Asking.{period_of, checks_of}
 
 -- some run happened between these two counts of its ticker, of which this is told: there is an
 -- answer that files, output and status follow
@@ -25,27 +28,40 @@ pub record IsToldOf (words : Words) (before now : Outside) (checks checks_now : 
   pub to : happened.now ≡ checks_now
   pub told : IsTold words before now happened status
 
--- the error output at one moment: what it was given, and how many puts have failed
-pub record ErrorOutput : Type 0 where
-  pub given : Given
-  pub faults : ℕ
-
-abbrev pub shown : {E : Type 0} → sink.Ghosts E → E → ErrorOutput
-shown of_output output = record { given = of_output.given output; faults = of_output.faults output }
-
--- a put of a text on the error output has answered this: all of it was given; or a part, where the
--- count of faults rose; or nothing, where memory was short
-pub record IsSaid (text : List ℕ) (before now : ErrorOutput) (said : Result (Unit {0}) FileFail)
-    : Type 0 where
-  pub put : IsPut text before.given now.given said
-  pub cause : HasCause before.faults now.faults said
-
--- THE SENTENCE of a status, or the notes, were put, by the words, by why a file was refused, and by
--- what the run found: the script that was stored under its name before the run, and the work that
--- files and output followed
-pub record HasSaid (words : Words) (before now : Outside) (why : Option FileWhy) (status : Status)
-    (errors errors_now : ErrorOutput) (answer : Result (Unit {0}) FileFail) : Type 0 where
+-- THE SENTENCE of a status, or the notes, by the words, by why a file was refused, and by what the
+-- run found: the script that was stored under its name before the run, and the work that files and
+-- output followed
+pub record IsSentence (words : Words) (before now : Outside) (why : Option FileWhy)
+    (status : Status) (sentence : List ℕ) : Type 0 where
   pub found : Found
   pub is_found : IsFound words before.held status found
   pub work : IsWorkFound status before.held now.held before.given now.given found.work
-  pub said : IsSaid (explained status found why words) errors errors_now answer
+  pub said : sentence ≡ explained status found why words
+
+-- it was put
+pub record HasSaid (words : Words) (before now : Outside) (why : Option FileWhy) (status : Status)
+    (errors errors_now : ErrorOutput) (answer : Result (Unit {0}) FileFail) : Type 0 where
+  pub sentence : List ℕ
+  pub is_sentence : IsSentence words before now why status sentence
+  pub said : IsSaid sentence errors errors_now answer
+
+-- the outside in the words of the top call
+abbrev pub of_top : frame.Outside → Outside
+of_top o = record {
+  held = o.held;
+  given = o.given;
+  load_faults = o.load_faults;
+  store_faults = o.store_faults;
+  put_faults = o.put_faults;
+}
+
+-- A RUN with a status: the answer of the top call, the ticker that the words ask for, the causes,
+-- the number, and the sentence
+pub record HasRun (words : Words) (before now : frame.Outside) (why : Option FileWhy)
+    (ticker : Asked) (code : ℕ) (status : Status) (sentence : List ℕ) : Type 0 where
+  pub told : IsToldOf words (of_top before) (of_top now) 0 (checks_of ticker) status
+  pub asked : period_of ticker ≡ ticks_in (command_of words)
+  pub cause : Caused (of_top before) (of_top now) status
+  pub usage : IsUsage (command_of words) status
+  pub code_of : code ≡ status_number status
+  pub sentence_of : IsSentence words (of_top before) (of_top now) why status sentence

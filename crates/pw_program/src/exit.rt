@@ -1,13 +1,12 @@
 //! How the program ends.
 ghost use Rattle.std.specs.Prelude.{◌≡◌, map, string_bytes, IfOk, IfErr};
-ghost use Rattle.pw_top.specs.Outside.{outside};
-ghost use Rattle.pw_program.specs.Exit.{HasEnded, HasRefused};
-ghost use Rattle.pw_program.specs.Program.{shown};
+ghost use Rattle.command_frame.specs.Outside.{outside};
+ghost use Rattle.program_exit.specs.Exit.{HasEnded, HasRefused};
+ghost use Rattle.program_exit.specs.Said.{shown};
+ghost use Rattle.pw_program.specs.Exit.{HasDone, refusal};
 
-use crate::asking::Asked;
-use crate::ended::{Ended, Exit};
-use crate::program::run_program;
-use crate::telling::tell_words;
+use crate::ended::Exit;
+use crate::pipegraph::Pipegraph;
 use pw_lists::Items;
 use pw_outside::{Files, Sink};
 use std::alloc::Global;
@@ -26,39 +25,28 @@ pub fn run_read<R: Threads + Wait + Sync, F: Files + TellsWhy, O: Sink, E: Sink>
     errors: &mut E,
 ) -> Exit<F, O>
     // The number is that of a status that files and output follow, and its sentence is put.
-    ensures ended { IfOk words (λ read. HasEnded (map string_bytes read)
+    ensures ended { IfOk words (λ read. HasEnded (HasDone (map string_bytes read)
         (outside F.Files O.Sink files out) (outside F.Files O.Sink result.files result.out)
-        (F.why result.files) result.ticker result.code (shown E.Sink errors.old)
+        (F.why result.files) result.ticker result.code) (shown E.Sink errors.old)
         (shown E.Sink errors.new) result.said) }
     // Or of what could not be read: files and output are as before.
-    ensures refused { IfErr words (λ unread. HasRefused unread (outside F.Files O.Sink files out)
-        (outside F.Files O.Sink result.files result.out) result.code (shown E.Sink errors.old)
-        (shown E.Sink errors.new) result.said) }
+    ensures refused { IfErr words (λ unread. HasRefused refusal unread
+        (outside F.Files O.Sink files out) (outside F.Files O.Sink result.files result.out)
+        result.code (shown E.Sink errors.old) (shown E.Sink errors.new) result.said) }
 {
-    match words {
-        Ok(words) => {
-            let Ended {
-                status: _status,
-                code,
-                files,
-                out,
-                ticker,
-                said,
-            } = run_program(rt, alloc, words.as_slice(), files, out, errors);
-            Exit {
-                code,
-                files,
-                out,
-                ticker,
-                said,
-            }
-        }
-        Err(unread) => Exit {
-            code: unread.number(),
-            files,
-            out,
-            ticker: Asked::Never,
-            said: tell_words(alloc, unread, errors),
-        },
+    let ended = program_exit::run_read(&Pipegraph::new(rt), alloc, words, files, out, errors);
+    let program_exit::Exit {
+        code,
+        files,
+        out,
+        left,
+        said,
+    } = ended;
+    Exit {
+        code,
+        files,
+        out,
+        ticker: left,
+        said,
     }
 }

@@ -6,9 +6,9 @@
 mod asking;
 mod ended;
 mod exit;
+mod pipegraph;
 mod program;
 mod running;
-mod telling;
 
 pub use asking::Asked;
 pub use ended::{Ended, Exit};

@@ -1,57 +1,21 @@
-//! What the program does.
+//! What the program does with its words.
 ghost use Rattle.std.specs.Prelude.{◌≡◌, map, string_bytes};
+ghost use Rattle.program_exit.specs.Said.{shown};
 ghost use Rattle.pw_top.specs.FaultCauses.{Caused, IsUsage};
 ghost use Rattle.pw_top.specs.Outside.{outside};
-ghost use Rattle.run_results.specs.StatusNumbers.{status_number};
 ghost use Rattle.pw_top.specs.Usage.{command_of, ticks_in};
-ghost use Rattle.fault_messages.specs.Explaining.{explained};
+ghost use Rattle.run_results.specs.StatusNumbers.{status_number};
 ghost use Rattle.pw_program.specs.Asking.{period_of, checks_of};
-ghost use Rattle.pw_program.specs.Program.{shown, IsToldOf, IsSaid, HasSaid};
+ghost use Rattle.pw_program.specs.Program.{IsToldOf, HasSaid};
 
-use crate::asking::Asked;
-use crate::ended::{Ended, Run};
-use crate::running::run_asked;
-use crate::telling::tell;
+use crate::ended::Ended;
+use crate::pipegraph::run_words;
+use program_exit::{Done, put_sentence};
 use pw_outside::{Files, Sink};
 use std::alloc::Global;
 use std::sync::Wait;
 use std::thread::Threads;
 use system_files::TellsWhy;
-
-// Puts the sentence of a run that was made, and answers how it ended. The files and the output are
-// those that the run left: nothing is loaded or stored, and nothing is put but on the error output.
-fn finish<F: Files + TellsWhy, O: Sink, E: Sink>(
-    alloc: Global,
-    words: &[String],
-    ran: Run<F, O>,
-    ticker: Asked,
-    errors: &mut E,
-) -> Ended<F, O>
-    ensures files { result.files ≡ ran.files }
-    ensures out { result.out ≡ ran.out }
-    ensures status { result.status ≡ ran.status }
-    ensures code { result.code ≡ status_number ran.status }
-    ensures ticker { result.ticker ≡ ticker }
-    ensures said { IsSaid
-        (explained ran.status ran.found (F.why ran.files) (map string_bytes words.now))
-        (shown E.Sink errors.old) (shown E.Sink errors.new) result.said }
-{
-    let Run {
-        status,
-        found,
-        files,
-        out,
-    } = ran;
-    let said = tell(alloc, words, &status, &found, files.why(), errors);
-    Ended {
-        status,
-        code: status.number(),
-        files,
-        out,
-        ticker,
-        said,
-    }
-}
 
 /// Does what the words of a command line ask for, puts the sentence of its status, or notes where
 /// all was done, on the error output, and answers the number that the program ends with; may wait.
@@ -85,6 +49,20 @@ pub fn run_program<R: Threads + Wait + Sync, F: Files + TellsWhy, O: Sink, E: Si
         (outside F.Files O.Sink result.files result.out) (F.why result.files) result.status
         (shown E.Sink errors.old) (shown E.Sink errors.new) result.said }
 {
-    let (ran, ticker) = run_asked(rt, alloc, words, files, out);
-    finish(alloc, words, ran, ticker, errors)
+    let (status, done) = run_words(rt, alloc, words, files, out);
+    let Done {
+        code,
+        files,
+        out,
+        left,
+        sentence,
+    } = done;
+    Ended {
+        status,
+        code,
+        files,
+        out,
+        ticker: left,
+        said: put_sentence(alloc, sentence, errors),
+    }
 }
