@@ -78,7 +78,7 @@ LINES = [
     ("gain dummy 1", 6, '"dummy" is the built-in driver\'s name'),
     ("on vox", 7, EARLIER + 'a node called "vox"'),
     ("driver out 1", 7, EARLIER + 'a node called "out"'),
-    ("link s.out late.in\nmeter late", 7, EARLIER + 'the node of "late.in"'),
+    ("link s.out late.in", 7, EARLIER + 'the node of "late.in"'),
     ("link s.out oo.in", 7, EARLIER + 'the node of "oo.in"'),
     ("link ss.out oo.in", 7, EARLIER + 'the node of "ss.out"'),
     ("unlink dummy.out o.in", 7, EARLIER + 'the node of "dummy.out"'),
@@ -98,9 +98,9 @@ LINES = [
 
 
 def lines(place):
-    """Lines that people get wrong."""
+    """Lines that people get wrong, each before one that makes a node."""
     for text, why, sentence in LINES:
-        place.file("wrong.graph", (START + text + "\n").encode())
+        place.file("wrong.graph", (START + text + "\nmeter late\n").encode())
         at = (START + text).count("\n") + 1
         wanted = (2, f"script {at} {why}\n".encode(),
                   f"pipegraph: wrong.graph:{at}: {sentence}\n".encode())
