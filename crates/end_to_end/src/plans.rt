@@ -162,7 +162,7 @@ fn a_run_finds_what_both_sides_of_a_refused_link_admit(rt: HostRuntime) -> Resul
     let [link] = refused.as_slice() else {
         panic!(rt; "{} links were refused", refused.len());
     };
-    assert_eq!(rt; (link.line, link.place, link.key), (8, 1, 65_539));
+    assert_eq!(rt; (link.line, link.place, link.key), (9, 1, 65_539));
     assert!(rt; link.from == REFUSED.from && link.to == REFUSED.to);
     assert!(rt; both_sides(rt.alloc(), link)?.as_slice() == b"44100 and 48000".as_slice());
     Ok(())
