@@ -1,4 +1,4 @@
-//! Tests of graph_plan over whole scripts, and of script_inputs. They are apart, since a crate
+//! Tests of graph_plan over whole scripts, of script_inputs and of refused_links. They are apart, since a crate
 //! that has tests is proved twice.
 #![tactic(auto)]
 
@@ -18,5 +18,7 @@ mod offers;
 mod parting;
 #[cfg(test)]
 mod plans;
+#[cfg(test)]
+mod refused;
 #[cfg(test)]
 mod showing;

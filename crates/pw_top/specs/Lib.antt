@@ -22,7 +22,6 @@ pub mod OneAnswer
 pub mod Options
 pub mod Outside
 pub mod PartsAlone
-pub mod Playable
 pub mod PlannedWork
 pub mod Playing
 pub mod PodFile

@@ -3,5 +3,6 @@
 pub mod Delivery
 pub mod Ending
 pub mod Filtering
+pub mod Playable
 pub mod Preparing
 pub mod Seen

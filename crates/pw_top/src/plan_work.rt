@@ -3,7 +3,7 @@
 ghost use Rattle.std.specs.Prelude.{◌≡◌, map, option_copied, IfOk, OnOk, All};
 ghost use Rattle.pw_graph.specs.History.{IsLegalHistory};
 ghost use Rattle.graph_script.specs.Kinds.{made_by};
-ghost use Rattle.pw_top.specs.Playable.{IsPlayable};
+ghost use Rattle.pw_top.specs.working.Playable.{IsPlayable};
 ghost use Rattle.pw_top.specs.PlannedWork.{plan_work, if_traced, rendered};
 ghost use Rattle.pw_top.specs.RunFound.{IsFoundOfPlan};
 ghost use Rattle.pw_top.specs.SinkStores.{makes_sink, sink_line_of, sink_file, sink_store};

@@ -12,7 +12,7 @@ ghost use Rattle.pw_top.specs.working.Preparing.{LoadsOnly, Tells};
 ghost use Rattle.pw_top.specs.ScriptFile.{PlansFile};
 ghost use Rattle.pw_top.specs.ScriptFound.{end_of, IsScriptUnder};
 ghost use Rattle.pw_top.specs.PlanInputs.{AreInputsOf};
-ghost use Rattle.pw_top.specs.Playable.{IsPlayable};
+ghost use Rattle.pw_top.specs.working.Playable.{IsPlayable};
 ghost use Rattle.pw_top.specs.PlannedWork.{PlansPorts, PlansInputs};
 
 use crate::inputs::PlanInputs;

@@ -7,7 +7,7 @@ ghost use Rattle.cycle_model.specs.Rendering.{rendered_sinks, rendered_peaks};
 ghost use Rattle.graph_run.specs.PlanRun.{IsRunOf};
 ghost use Rattle.pw_top.specs.Crews.{seat_in, seats_beside};
 ghost use Rattle.pw_top.specs.Playing.{happened, HasRun};
-ghost use Rattle.pw_top.specs.Playable.{IsPlayable};
+ghost use Rattle.pw_top.specs.working.Playable.{IsPlayable};
 ghost use Rattle.pw_top.specs.PlannedWork.{rendered};
 
 use crate::planned::Planned;

@@ -12,8 +12,6 @@ mod lines;
 mod noting;
 mod refused_link;
 mod sides;
-#[cfg(test)]
-mod tests;
 mod words;
 
 pub use lines::refused_links;

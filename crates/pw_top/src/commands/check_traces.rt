@@ -11,7 +11,7 @@ ghost use Rattle.pw_top.specs.Check.{trace_bytes_limit, finding_text, check_work
 ghost use Rattle.pw_top.specs.CheckFound.{event_at, IsFoundIn, IsFoundUnder, IsFoundByCheck};
 ghost use Rattle.pw_top.specs.ScriptFound.{end_of, IsScriptUnder};
 ghost use Rattle.pw_top.specs.working.Ending.{Ends, CommandCause, IsDeliverable};
-ghost use Rattle.pw_top.specs.Playable.{IsPlayable};
+ghost use Rattle.pw_top.specs.working.Playable.{IsPlayable};
 ghost use Rattle.pw_top.specs.working.Preparing.{LoadsOnly, Tells};
 ghost use Rattle.pw_top.specs.working.Seen.{IsSeenOn, verdict_by, finding_by, what_by};
 

@@ -6,7 +6,7 @@ ghost use Rattle.std.specs.Prelude.{◌≡◌, ◌≤◌, None, IsSome, OnOk};
 ghost use Rattle.ready_queues.specs.Lanes.{loops_limit};
 ghost use Rattle.pw_outside.specs.Files.{names_in};
 ghost use Rattle.pw_top.specs.working.Ending.{CommandCause, IsDeliverable};
-ghost use Rattle.pw_top.specs.Playable.{IsPlayable};
+ghost use Rattle.pw_top.specs.working.Playable.{IsPlayable};
 ghost use Rattle.pw_top.specs.PlannedWork.{PlaysPlan};
 ghost use Rattle.pw_top.specs.Playing.{happened, HasNothing, Plays, TellsPlay};
 ghost use Rattle.pw_top.specs.working.Preparing.{LoadsOnly};

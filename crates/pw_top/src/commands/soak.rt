@@ -3,7 +3,7 @@
 
 ghost use Rattle.std.specs.Prelude.{◌≡◌, ◌≤◌, IfOk};
 ghost use Rattle.pw_top.specs.working.Ending.{Ends, CommandCause, IsDeliverable};
-ghost use Rattle.pw_top.specs.Playable.{IsPlayable};
+ghost use Rattle.pw_top.specs.working.Playable.{IsPlayable};
 ghost use Rattle.pw_top.specs.PlannedWork.{rendered};
 ghost use Rattle.pw_top.specs.Playing.{happened, HasNothing, Plays};
 ghost use Rattle.pw_top.specs.Soak.{PlansNumber, SoaksPlan, soak_work, IsSoakAnswer};

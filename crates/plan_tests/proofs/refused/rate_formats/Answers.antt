@@ -2,7 +2,7 @@
 use Rattle.std.proofs.Common.{All, subst, sym}
 use Rattle.std.proofs.lemmas.List.Elements.{All-push, All-nil}
 use Rattle.format_filter.specs.CommonFormat.{IsSoundFormat}
-use Rattle.refused_links.proofs.tests.rate_formats.Goals as goal
+use Rattle.plan_tests.proofs.refused.rate_formats.Goals as goal
 
 pub returns-in-Ok : goal.returns-in-Ok
 returns-in-Ok c = subst (All IsSoundFormat) (sym c.in-Ok.ensures.ok)

@@ -3,13 +3,13 @@ ghost use Rattle.std.specs.Prelude.{All, IfOk, IfSome};
 ghost use Rattle.format_filter.specs.CommonFormat.{IsSoundFormat};
 ghost use Rattle.script_inputs.specs.Inputs.{HasForm};
 
-use crate::{RefusedLink, Sides, put_choice, refused_links};
 use format_filter::{Choice, Format, Wide, format_of};
 use graph_plan::plan;
 use graph_script::parse;
 use pod_codec::{Pod, read_pod};
 use pw_graph::{LineOutcome, LinkLine, PortId};
 use pw_lists::{Items, Memory, SCRIPT_BYTES_LIMIT, Text};
+use refused_links::{RefusedLink, Sides, put_choice, refused_links};
 use script_inputs::{Inputs, inputs_of};
 use std::alloc::Global;
 use std::test::Fail;
