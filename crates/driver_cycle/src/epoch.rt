@@ -9,6 +9,7 @@ ghost use Rattle.data_loop.specs.LoopDriver.{DrivesFrom, HasLedSoFar};
 ghost use Rattle.driver_cycle.specs.Leading.{IsLeading, IsBetween, IsWaiting, IsDriving, HasEndedAll};
 ghost use Rattle.driver_cycle.specs.Rounds.{BeginsNext, HasLooked};
 ghost use Rattle.driver_cycle.specs.Settling.{HasSettled, AreEach};
+ghost use Rattle.driver_cycle.specs.Asking.{IsAskedBy};
 ghost use Rattle.driver_cycle.specs.Epochs.{IsThread, HasGoneOn, HasGoneRound};
 ghost use Rattle.driver_cycle.specs.Waking.{SendsBegun};
 ghost use Rattle.driver_cycle.specs.working.Resting.{EndsRound};
@@ -43,6 +44,7 @@ fn go_round<R: Wait, G: Gate, K: Ticker>(
         seat.new own.new adopted.new (K.ticks ticker.new) }
     ensures round { HasGoneRound result (layout at.now.board.now) seat.old.knows checked.new
         seat.new.knows }
+    ensures asked { IsAskedBy K.answers result checked.old ticker.old ticker.new }
     // The thread rests only where nothing was done, and then where another thread has a loop.
     ensures rest { EndsRound result (layout at.now.board.now) at.now.ways.now.loops own.old
         adopted.old adopted.new way.old way.new }

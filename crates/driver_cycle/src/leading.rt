@@ -6,6 +6,7 @@ ghost use Rattle.data_loop.specs.Driving.{MayDrive};
 ghost use Rattle.data_loop.specs.LoopsOnBoards.{IsOnBoard, IsSameBut};
 ghost use Rattle.data_loop.specs.LoopDriver.{DrivesFrom, HasLedSoFar};
 ghost use Rattle.driver_cycle.specs.Leading.{IsLeading, IsBetween, IsWaiting, IsDriving};
+ghost use Rattle.driver_cycle.specs.Asking.{AsksOnce, IsAskedBy};
 ghost use Rattle.driver_cycle.specs.Rounds.{HasLooked};
 ghost use Rattle.driver_cycle.specs.Concluding.{HasConcluded, LooksOnce, IsClaimed};
 
@@ -41,6 +42,7 @@ fn look_once<K: Ticker>(board: &Board, seat: &mut DriverSeat, checked: &mut bool
     ensures look { LooksOnce checked.old (layout board.now) seat.old.knows
         (K.ticks ticker.old) (K.ticks ticker.new) seat.new.knows }
     ensures looked { HasLooked seat.old seat.new (K.ticks ticker.old) (K.ticks ticker.new) }
+    ensures asked { AsksOnce K.answers checked.old ticker.old ticker.new }
     ensures waits { IsWaiting (layout board.now) seat.new.knows }
     ensures checked { checked.new ≡ seat.new.knows.lead.checked }
     ensures cycle { seat.new.knows.lead.cycle ≡ seat.old.knows.lead.cycle }
@@ -84,6 +86,7 @@ pub fn lead_once<G: Gate, K: Ticker>(
     ensures led_so_far { HasLedSoFar (layout board.now) own.new seat.new.knows }
     ensures checked { checked.new ≡ seat.new.knows.lead.checked }
     ensures looked { HasLooked seat.old seat.new (K.ticks ticker.old) (K.ticks ticker.new) }
+    ensures asked { IsAskedBy K.answers result checked.old ticker.old ticker.new }
 {
     match claim_driver(board, seat) {
         Claim::Awake { .. } => {

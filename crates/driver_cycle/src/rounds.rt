@@ -1,5 +1,5 @@
 //! The calls of the driver's thread that no loop is needed for.
-ghost use Rattle.std.specs.Prelude.{◌≡◌, ℕ, false};
+ghost use Rattle.std.specs.Prelude.{◌≡◌, ℕ, false, is_some};
 ghost use Rattle.board_rule.specs.OnBoard.{IsOn, layout};
 ghost use Rattle.node_progress.specs.declared.run_model.RunModel.{RunModel};
 ghost use Rattle.driver_cycle.specs.Leading.{IsLeading, IsBetween, IsWaiting, IsDriving};
@@ -41,6 +41,8 @@ pub fn look<K: Ticker>(board: &Board, seat: &mut DriverSeat, ticker: &mut K) -> 
     ensures look { let p = layout board.now in
         IsLook p seat.old.knows (K.ticks ticker.old) (K.ticks ticker.new) result seat.new.knows }
     ensures looked { HasLooked seat.old seat.new (K.ticks ticker.old) (K.ticks ticker.new) }
+    // So the ticker was asked, and once.
+    ensures asked { K.answers ticker.old (is_some result) ticker.new }
     ensures waits { IsWaiting (layout board.now) seat.new.knows }
     ensures table { seat.new.table ≡ seat.old.table }
     ensures leads { (run_model : RunModel) (k : ℕ) → IsLeading run_model k board.now seat.old
