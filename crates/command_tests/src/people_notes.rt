@@ -38,6 +38,15 @@ const NOTES: &'static [Asked] = &[
         ..RUN
     },
     Asked {
+        script: b"square a 48000 1 2 5\nmix2 m 256 256\nmix2 n 1 1\nmix2 o 1 1\nlink a.out m.a\n\
+            link m.out n.b\n",
+        code: 0,
+        out: b"link a.out m.a 48000 1 2\nlink m.out n.b 48000 1 2\n",
+        said: b"s.graph:2: \"m\" mixes in silence: no line links anything to its input b\n\
+            pipegraph: s.graph:3: \"n\" mixes in silence: no line links anything to its input a",
+        ..RUN
+    },
+    Asked {
         script: b"square a 48000 6 2 5\nsplit p\nlink a.out p.in\n",
         code: 0,
         out: b"nolink a.out p.in 65540\n",
@@ -208,6 +217,14 @@ const SINKS: &'static [Asked] = &[
         out: b"link s.out o.in 48000 1 2\nwrote o 4\n",
         said: b"s.graph:3: \"s.wav\" is a source's file too: it was read first, \
             and written after that",
+        ..RUN
+    },
+    Asked {
+        script: b"quantum 2\nsquare q 48000 1 2 5\nsink o s.graph\nlink q.out o.in\ncycles 1\n",
+        code: 0,
+        out: b"link q.out o.in 48000 1 2\nwrote o 2\n",
+        said: b"s.graph:3: \"s.graph\" is the script itself: it was read first, \
+            and its text is gone now",
         ..RUN
     },
     Asked {

@@ -12,6 +12,7 @@ pub mod Help
 pub mod KeyNames
 pub mod LinkEnds
 pub mod LinkNotes
+pub mod LoneInputs
 pub mod MainWords
 pub mod Makers
 pub mod Message

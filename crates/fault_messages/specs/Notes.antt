@@ -14,17 +14,18 @@ use Rattle.shown_words.specs.Escaping.{escaped}
 use Rattle.fault_messages.specs.ClippedSinks.{stored_note}
 use Rattle.fault_messages.specs.KeyNames.{key_clash}
 use Rattle.fault_messages.specs.LinkNotes.{link_notes}
+use Rattle.fault_messages.specs.LoneInputs.{lone_notes}
 use Rattle.fault_messages.specs.NoteHeads.{trace_note}
 use Rattle.fault_messages.specs.Places.{Words, word}
 use Rattle.fault_messages.specs.ReasonNotes.{reason_note}
 use Rattle.fault_messages.specs.SinkNotes.{sink_notes}
 
--- of a run: its links, then its sinks and meters
+-- of a run: its links, its mixers, then its sinks and meters
 abbrev pub run_notes : Words → Script → Plan → List Peak → List RefusedLink → Option Work → List ℕ
 run_notes words script plan peaks refused None = []
 run_notes words script plan peaks refused (Some work) =
     link_notes words plan.nodes refused script.lines plan.lines
-    ++ sink_notes words script work.stores peaks
+    ++ (lone_notes words script ++ sink_notes words script work.stores peaks)
 
 -- of a check: the reason, where there is one; and a line of the trace that is no event
 abbrev pub check_note : Words → Words → Option Reason → Option Event → List ℕ

@@ -1,11 +1,12 @@
 -- Which files sinks have stored, and notes on those that a later sink writes too or a source reads,
--- and on names that may be meant otherwise. Source: this project's own.
+-- on a script that is overwritten, and on names that may be meant otherwise.
+-- Source: this project's own.
 use Rattle.std.specs.Prelude.{ℕ, ◌&&◌, Bool, List, [], ◌++◌, codes, bytes_eq, nat_lt, if◌then◌else◌}
 use Rattle.std.specs.List.{list_any}
 use Rattle.command_frame.specs.declared.work.Store.{Store}
 use Rattle.graph_script.specs.declared.script.Line.{Line}
 use Rattle.fault_messages.specs.NoteHeads.{note_at}
-use Rattle.fault_messages.specs.Places.{Words, has_quote, is_dash, quoted}
+use Rattle.fault_messages.specs.Places.{Words, word, has_quote, is_dash, quoted}
 use Rattle.fault_messages.specs.ScriptLines.{is_read}
 
 -- a store of this file, also of a line after this one; and whether there is one
@@ -50,3 +51,12 @@ read_too file = quoted file
 abbrev pub source_note : Words → List Line → ℕ → List ℕ → List ℕ
 source_note words lines n file =
     if is_read lines file then note_at words n (read_too file) else []
+
+-- THE NOTE on a file that is the script
+unfoldable pub script_too : List ℕ → List ℕ
+script_too file = quoted file
+    ++ codes " is the script itself: it was read first, and its text is gone now"
+
+abbrev pub script_note : Words → ℕ → List ℕ → List ℕ
+script_note words n file =
+    if bytes_eq (word words 1) file then note_at words n (script_too file) else []

@@ -11,7 +11,7 @@ use Rattle.fault_messages.specs.ClippedSinks.{clipped_note}
 use Rattle.fault_messages.specs.EmptySinks.{empty_note, still_note}
 use Rattle.fault_messages.specs.NoteHeads.{note_at}
 use Rattle.fault_messages.specs.Places.{Words, quoted}
-use Rattle.fault_messages.specs.SinkFiles.{is_written, later_note, source_note, name_note}
+use Rattle.fault_messages.specs.SinkFiles.{is_written, later_note, source_note, script_note, name_note}
 use Rattle.fault_messages.specs.SinkWaves.{samples_at}
 
 -- of a node without a format; another sink may write the sink's file
@@ -33,7 +33,8 @@ unused_meter name = quoted name ++ codes " had no format at the end, so it has n
 -- of the file of a sink that stored samples, and of the samples
 abbrev pub file_notes : Words → List Line → List Store → ℕ → List ℕ → List ℕ
 file_notes words lines stores n file =
-    later_note words stores n file ++ (source_note words lines n file ++ name_note words n file)
+    later_note words stores n file ++ (source_note words lines n file
+    ++ (script_note words n file ++ name_note words n file))
 
 abbrev pub wave_notes : Words → List Line → List ℤ → ℕ → List ℕ → List ℕ → List ℕ
 wave_notes words lines samples n name file =

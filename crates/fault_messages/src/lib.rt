@@ -19,6 +19,7 @@ mod key_names;
 mod lines;
 mod link_ends;
 mod link_notes;
+mod lone_inputs;
 mod main_words;
 mod makers;
 mod name_rules;

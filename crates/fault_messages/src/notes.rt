@@ -6,6 +6,7 @@ ghost use Rattle.fault_messages.specs.NoteHeads.{trace_note};
 use crate::clipped_sinks::put_stored_note;
 use crate::key_names::put_key_clash;
 use crate::link_notes::put_link_notes;
+use crate::lone_inputs::put_lone_notes;
 use crate::note_heads::put_trace_head;
 use crate::places::word_at;
 use crate::putting::put_shown_pair;
@@ -38,6 +39,7 @@ fn put_run_notes(
         Some(work) => {
             let (nodes, links) = (plan.nodes.as_slice(), plan.lines.as_slice());
             put_link_notes(text, words, nodes, refused, script.lines.as_slice(), links)?;
+            put_lone_notes(text, words, script)?;
             put_sink_notes(text, words, script, work.stores.as_slice(), peaks)
         }
     }

@@ -1,12 +1,13 @@
 //! Which files sinks have stored, and notes on those that a later sink writes too or a source
-//! reads.
+//! reads, and on a script that is overwritten.
 ghost use Rattle.std.specs.Prelude.{◌≡◌, ◌++◌, map, string_bytes, OnOk};
 ghost use Rattle.fault_messages.specs.SinkFiles.{writes, writes_later, is_written, is_written_later};
 ghost use Rattle.fault_messages.specs.SinkFiles.{quotes_kept, dash_kept, name_note};
 ghost use Rattle.fault_messages.specs.SinkFiles.{overwritten, later_note, read_too, source_note};
+ghost use Rattle.fault_messages.specs.SinkFiles.{script_too, script_note};
 
 use crate::note_heads::put_note_head;
-use crate::places::{has_quote, is_dash};
+use crate::places::{has_quote, is_dash, word_at};
 use crate::putting::put_behind;
 use crate::script_lines::is_read;
 use graph_script::Line;
@@ -153,5 +154,34 @@ pub fn put_source_note(
     }
     put_note_head(text, words, number)?;
     put_read_too(text, file)?;
+    text.extend(b"\n")
+}
+
+#[tactic(auto, unfolding(crate::specs::SinkFiles::script_too))]
+fn put_script_too(text: &mut Text, file: &[u8]) -> Result<(), Memory>
+    ensures { OnOk result (text.new ≡ text.old ++ script_too file.now) }
+{
+    put_behind(
+        text,
+        file,
+        b" is the script itself: it was read first, and its text is gone now",
+    )
+}
+
+/// The note on a file that is the script.
+pub fn put_script_note(
+    text: &mut Text,
+    words: &[String],
+    number: u32,
+    file: &[u8],
+) -> Result<(), Memory>
+    ensures { OnOk result (text.new ≡ text.old
+        ++ script_note (map string_bytes words.now) number file.now) }
+{
+    if word_at(words, 1) != file {
+        return Ok(());
+    }
+    put_note_head(text, words, number)?;
+    put_script_too(text, file)?;
     text.extend(b"\n")
 }

@@ -9,7 +9,9 @@ use crate::clipped_sinks::put_clipped_note;
 use crate::empty_sinks::{put_empty_note, put_still_note};
 use crate::note_heads::put_note_head;
 use crate::putting::{put_behind, put_quoted_pair, put_two_quoted};
-use crate::sink_files::{is_written, put_later_note, put_name_note, put_source_note};
+use crate::sink_files::{
+    is_written, put_later_note, put_name_note, put_script_note, put_source_note,
+};
 use crate::sink_waves::samples_at;
 use graph_script::{Command, Line, Script};
 use pw_lists::{Memory, Text};
@@ -65,7 +67,7 @@ fn put_unused_meter(text: &mut Text, name: &[u8]) -> Result<(), Memory>
 }
 
 // Of the file of a sink that stored samples: that a later sink writes it too, that a source reads
-// it, or what its name is.
+// it, that it is the script, or what its name is.
 fn put_file_notes(
     text: &mut Text,
     words: &[String],
@@ -79,6 +81,7 @@ fn put_file_notes(
 {
     put_later_note(text, words, stores, number, file)?;
     put_source_note(text, words, lines, number, file)?;
+    put_script_note(text, words, number, file)?;
     put_name_note(text, words, number, file)
 }
 
@@ -161,8 +164,8 @@ fn put_meter_note(
     }
 }
 
-// The name of a node; nothing where it has none.
-fn name_of(script: &Script, node: u32) -> &[u8]
+/// The name of a node; nothing where it has none.
+pub fn name_of(script: &Script, node: u32) -> &[u8]
     ensures { result.now ≡ name_of script.now node }
 {
     match script.names.as_slice().get(node as usize) {
