@@ -94,6 +94,16 @@ def lanes(count=4, length=14, quantum=8192, cycles=2000):
     return Graph("lanes", lines + [f"cycles {cycles}"], waves, count * (length + 1) + 1, cycles)
 
 
+def many(epochs=1):
+    """31 squares to 30 gains to one sink: 62 nodes and 230 links, 1,024 cycles of 16 samples."""
+    lines = ["quantum 16"] + [f"square s{i} 48000 1 {5 + i} {100 + i}" for i in range(31)]
+    lines += [f"gain g{i} {16 + i}" for i in range(30)] + ["sink o OUT", "driver o 1"]
+    lines += [f"link s{(i + j) % 31}.out g{i}.in" for i in range(30) for j in range(6 + i // 20)]
+    lines += [f"link g{i}.out o.in" for i in range(30)] + [f"link s{i}.out o.in" for i in range(10)]
+    lines += [f"cycles {1024 // epochs}"] * epochs
+    return Graph("many" if epochs == 1 else f"many_{epochs}", lines, [], 62, 1024)
+
+
 class Took(NamedTuple):
     wall: float  # seconds
     own: float  # processor seconds

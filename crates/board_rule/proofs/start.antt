@@ -5,4 +5,5 @@ pub mod StartWordLemmas
 pub mod BufferStartLemmas
 pub mod OwnerLemmas
 pub mod SlotLemmas
+pub mod SeatRangeLemmas
 pub mod EntryLemmas

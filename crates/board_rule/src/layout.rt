@@ -6,9 +6,7 @@ ghost use Rattle.pw_graph.specs.Words.{not_triggered_word};
 ghost use Rattle.pw_graph.specs.Layout.{start_words, io_start, pool_words, pool_start};
 
 use crate::steps::statuses::not_triggered;
-use pw_graph::{
-    AreaStatus, NO_BLOCK, PoolShape, PortId, Shape, ShapeLink, io_word, is_same_port, pools_of,
-};
+use pw_graph::{AreaStatus, NO_BLOCK, PoolShape, PortId, Shape, ShapeLink, io_word, is_same_port};
 use pw_lists::{Items, Memory};
 use std::alloc::Global;
 
@@ -81,13 +79,12 @@ fn push_pool(words: &mut Items<u64>, shape: &Shape, pool: &PoolShape) -> Result<
 }
 
 // The words of all pools.
-fn push_pools(alloc: Global, words: &mut Items<u64>, shape: &Shape) -> Result<(), Memory>
-    requires pooled { IsPooledShape shape.now }
+fn push_pools(words: &mut Items<u64>, shape: &Shape, pools: &[PoolShape]) -> Result<(), Memory>
+    requires pools { pools.now ≡ pools_of shape.now }
     ensures { OnOk result (words.new
         ≡ words.old ++ flat_map (pool_start shape.now) (pools_of shape.now)) }
 {
-    let pools = pools_of(alloc, shape)?;
-    for pool in pools.as_slice() {
+    for pool in pools {
         push_pool(words, shape, pool)?;
     }
     Ok(())
@@ -104,9 +101,14 @@ fn node_words(alloc: Global, nodes: usize, first: u32) -> Result<Items<u64>, Mem
     Ok(words)
 }
 
-/// The words of a board at its start.
-pub(crate) fn start_words(alloc: Global, shape: &Shape) -> Result<Items<u64>, Memory>
+/// The words of a board at its start, by the pools of its shape.
+pub(crate) fn start_words(
+    alloc: Global,
+    shape: &Shape,
+    pools: &[PoolShape],
+) -> Result<Items<u64>, Memory>
     requires pooled { IsPooledShape shape.now }
+    requires pools { pools.now ≡ pools_of shape.now }
     ensures { IfOk result (λ words. words ≡ start_words shape.now) }
 {
     let nodes = shape.nodes.len();
@@ -114,6 +116,6 @@ pub(crate) fn start_words(alloc: Global, shape: &Shape) -> Result<Items<u64>, Me
     let mut words = node_words(alloc, nodes, shape.first)?;
     push_areas(&mut words, shape.links.as_slice(), shape.first)?;
     words.extend_filled(cycles + cycles * (2 * nodes + 3), 0)?;
-    push_pools(alloc, &mut words, shape)?;
+    push_pools(&mut words, shape, pools)?;
     Ok(words)
 }

@@ -2,7 +2,7 @@
 ghost use Rattle.board_rule.specs.OnBoard.{IsOn, layout};
 ghost use Rattle.std.specs.Prelude.{◌≡◌, ℕ, ◌<◌, length, slice_get, Some, IfOk};
 ghost use Rattle.pw_graph.specs.Layout.{event_count};
-ghost use Rattle.pw_graph.specs.Pools.{IsPooledShape};
+ghost use Rattle.pw_graph.specs.Pools.{IsPooledShape, pools_of};
 ghost use Rattle.board_rule.specs.Known.{Known};
 ghost use Rattle.board_rule.specs.Layout.{layout_of, HasSeats};
 ghost use Rattle.board_rule.specs.buffers.SampleWords.{IsTable};
@@ -23,7 +23,7 @@ use crate::slots::slots_in;
 use crate::starts::{Starts, own, starts_of};
 use crate::view::View;
 use atomic_table::{Split, Table};
-use pw_graph::Shape;
+use pw_graph::{PoolShape, Shape, pools_of};
 use pw_lists::{Items, Memory};
 use std::alloc::Global;
 use std::marker::{Brand, PhantomData};
@@ -191,9 +191,11 @@ impl Board {
     fn lay_out(
         alloc: Global,
         board_shape: BoardShape,
+        pools: &[PoolShape],
         starts: &Starts,
     ) -> Result<(Board, DriverSeat), Memory>
         requires starts { IsStart (layout_of board_shape) starts.now }
+        requires pools { pools.now ≡ pools_of board_shape.shape }
         requires pooled { IsPooledShape board_shape.shape }
         requires seats { HasSeats board_shape }
         ensures { IfOk result (λ t. (t.0.board_shape ≡ board_shape)
@@ -201,8 +203,8 @@ impl Board {
             × (t.1.knows ≡ first_view (layout_of board_shape))) }
     {
         let spare = Items::new(alloc).into_room(event_count(&board_shape.shape))?;
-        let words = start_words(alloc, &board_shape.shape)?;
-        let rows = rows_of(alloc, &board_shape.shape, words.len())?;
+        let words = start_words(alloc, &board_shape.shape, pools)?;
+        let rows = rows_of(alloc, &board_shape.shape, pools, words.len())?;
         let slot_rows = slots_in(alloc, &board_shape, &starts.owners, rows.pools.as_slice())?;
         let reads = own(
             alloc,
@@ -267,9 +269,43 @@ impl Board {
               knows = loop_view (layout_of t.0.board_shape) E.expect k;
             }) }
     {
+        let pools = pools_of(alloc, shape)?;
+        Board::with_pools::<E>(alloc, shape, pools.as_slice(), seat_of, seats)
+    }
+
+    /// As `new`, with the pools of the shape, for a caller that has them.
+    pub fn with_pools<E: Expect>(
+        alloc: Global,
+        shape: &Shape,
+        pools: &[PoolShape],
+        seat_of: &Items<u32>,
+        seats: u32,
+    ) -> Result<(Board, DriverSeat, Items<LoopSeat>), Memory>
+        requires pooled { IsPooledShape shape.now }
+        requires pools { pools.now ≡ pools_of shape.now }
+        requires seats { HasSeats
+            record { shape = shape.now; seat_of = seat_of.now; seats = seats } }
+        requires samples { IsTable
+            (layout_of record { shape = shape.now; seat_of = seat_of.now; seats = seats })
+            E.expect }
+
+        ensures board_shape { IfOk result (λ t. t.0.board_shape
+            ≡ record { shape = shape.now; seat_of = seat_of.now; seats = seats }) }
+        ensures driver { IfOk result (λ t. t.1
+            ≡ record {
+              table = t.0.table.shared.table_id;
+              knows = driver_view (layout_of t.0.board_shape) E.expect seats;
+            }) }
+        ensures count { IfOk result (λ t. length t.2 ≡ seats) }
+        ensures loops { IfOk result (λ t. (k : ℕ) → k < seats
+            → slice_get t.2 k ≡ Some record {
+              table = t.0.table.shared.table_id;
+              knows = loop_view (layout_of t.0.board_shape) E.expect k;
+            }) }
+    {
         let board_shape = board_shape_of(alloc, shape, seat_of, seats)?;
-        let starts = starts_of(alloc, &board_shape)?;
-        let (board, mut driver) = Board::lay_out(alloc, board_shape, &starts)?;
+        let starts = starts_of(alloc, &board_shape, pools)?;
+        let (board, mut driver) = Board::lay_out(alloc, board_shape, pools, &starts)?;
         let loops = driver.split_all::<E>(alloc, &board, &starts)?;
         Ok((board, driver, loops))
     }

@@ -1,14 +1,14 @@
 //! Whose each node, link and block is, as rows of seats' numbers.
 ghost use Rattle.std.specs.Prelude.{◌≡◌, ◌++◌, IfOk, OnOk, map, replicate};
 ghost use Rattle.std.specs.List.{flat_map};
-ghost use Rattle.pw_graph.specs.Pools.{IsPooledShape, pools_of};
+ghost use Rattle.pw_graph.specs.Pools.{pools_of};
 ghost use Rattle.board_rule.specs.Layout.{layout_of};
 ghost use Rattle.board_rule.specs.start.Owners.{seat_with};
 ghost use Rattle.board_rule.specs.working.Slots.{AreOwners};
 
 use crate::board_shape::BoardShape;
 use crate::rows::index_in;
-use pw_graph::{ShapeLink, pools_of};
+use pw_graph::{PoolShape, ShapeLink};
 use pw_lists::{Items, Memory};
 use std::alloc::Global;
 
@@ -41,6 +41,7 @@ fn of_nodes(alloc: Global, board_shape: &BoardShape) -> Result<Items<u32>, Memor
         ≡ map (λ n. seat_with (layout_of board_shape.now) n.node) board_shape.now.shape.nodes) }
 {
     let mut row = Items::new(alloc);
+    row.reserve(board_shape.shape.nodes.len())?;
     for n in board_shape.shape.nodes.as_slice() {
         row.push(seat_with(board_shape, n.node))?;
     }
@@ -54,6 +55,7 @@ fn of_writers(alloc: Global, board_shape: &BoardShape) -> Result<Items<u32>, Mem
         board_shape.now.shape.links) }
 {
     let mut row = Items::new(alloc);
+    row.reserve(board_shape.shape.links.len())?;
     for link in board_shape.shape.links.as_slice() {
         row.push(seat_with(board_shape, link.from.node))?;
     }
@@ -67,6 +69,7 @@ fn of_readers(alloc: Global, board_shape: &BoardShape) -> Result<Items<u32>, Mem
         board_shape.now.shape.links) }
 {
     let mut row = Items::new(alloc);
+    row.reserve(board_shape.shape.links.len())?;
     for link in board_shape.shape.links.as_slice() {
         row.push(seat_with(board_shape, link.to.node))?;
     }
@@ -74,29 +77,37 @@ fn of_readers(alloc: Global, board_shape: &BoardShape) -> Result<Items<u32>, Mem
 }
 
 // The seats of the blocks of all pools.
-fn of_blocks(alloc: Global, board_shape: &BoardShape) -> Result<Items<u32>, Memory>
-    requires { IsPooledShape board_shape.now.shape }
+fn of_blocks(
+    alloc: Global,
+    board_shape: &BoardShape,
+    pools: &[PoolShape],
+) -> Result<Items<u32>, Memory>
+    requires { pools.now ≡ pools_of board_shape.now.shape }
     ensures { IfOk result (λ row. row
         ≡ flat_map (λ x. replicate x.blocks (seat_with (layout_of board_shape.now) x.port.node))
         (pools_of board_shape.now.shape)) }
 {
-    let pools = pools_of(alloc, &board_shape.shape)?;
     let mut row = Items::new(alloc);
-    for pool in pools.as_slice() {
+    for pool in pools {
         row.extend_filled(pool.blocks as usize, seat_with(board_shape, pool.port.node))?;
     }
     Ok(row)
 }
 
-/// The rows of a board. Cost: a look at each node for each node, link and pool.
-pub(crate) fn owner_rows(alloc: Global, board_shape: &BoardShape) -> Result<OwnerRows, Memory>
-    requires { IsPooledShape board_shape.now.shape }
+/// The rows of a board, by the pools of its shape. Cost: a look at each node for each node, link and
+/// pool.
+pub(crate) fn owner_rows(
+    alloc: Global,
+    board_shape: &BoardShape,
+    pools: &[PoolShape],
+) -> Result<OwnerRows, Memory>
+    requires { pools.now ≡ pools_of board_shape.now.shape }
     ensures { IfOk result (λ rows. AreOwners (layout_of board_shape.now) rows) }
 {
     Ok(OwnerRows {
         nodes: of_nodes(alloc, board_shape)?,
         writes: of_writers(alloc, board_shape)?,
         reads: of_readers(alloc, board_shape)?,
-        blocks: of_blocks(alloc, board_shape)?,
+        blocks: of_blocks(alloc, board_shape, pools)?,
     })
 }

@@ -7,7 +7,7 @@ ghost use Rattle.pw_graph.specs.Pools.{IsPooledShape, is_same_port, pools_of};
 ghost use Rattle.board_rule.specs.buffers.EndViews.{pool_in};
 ghost use Rattle.board_rule.specs.working.Rows.{IsLinkRow, HasLinkRows, IsPoolRow, HasPoolRows, HasRows, HasIndexes, base_of};
 
-use pw_graph::{PoolShape, PortId, Shape, ShapeLink, is_same_port, pools_of};
+use pw_graph::{PoolShape, PortId, Shape, ShapeLink, is_same_port};
 use pw_lists::Memory;
 use std::alloc::{AllocError, Global};
 
@@ -84,7 +84,7 @@ fn indexes_of(shape: &Shape) -> [usize; 64]
 fn indexes(alloc: Global, shape: &Shape, nodes: &[u32]) -> Result<Vec<usize>, AllocError>
     ensures { IfOk result (λ v. v.items ≡ map (index_in shape.now) nodes.now) }
 {
-    let mut found = Vec::new(alloc);
+    let mut found = Vec::with_capacity(alloc, nodes.len())?;
     for n in nodes {
         found.push(index_in(shape, *n))?;
     }
@@ -95,7 +95,7 @@ fn indexes(alloc: Global, shape: &Shape, nodes: &[u32]) -> Result<Vec<usize>, Al
 fn required_of(alloc: Global, shape: &Shape) -> Result<Vec<u64>, AllocError>
     ensures { IfOk result (λ v. v.items ≡ required_row shape.now) }
 {
-    let mut row = Vec::new(alloc);
+    let mut row = Vec::with_capacity(alloc, shape.nodes.len())?;
     for n in shape.nodes.as_slice() {
         row.push(u64::from(n.required))?;
     }
@@ -106,7 +106,7 @@ fn required_of(alloc: Global, shape: &Shape) -> Result<Vec<u64>, AllocError>
 fn targets_of(alloc: Global, shape: &Shape) -> Result<Vec<Vec<usize>>, AllocError>
     ensures { IfOk result (λ v. map (λ row. row.items) v.items ≡ target_rows shape.now) }
 {
-    let mut rows = Vec::new(alloc);
+    let mut rows = Vec::with_capacity(alloc, shape.nodes.len())?;
     for n in shape.nodes.as_slice() {
         rows.push(indexes(alloc, shape, n.targets.as_slice())?)?;
     }
@@ -210,7 +210,7 @@ fn links_of(
     requires placed { HasIndexes shape.now }
     ensures { IfOk result (λ rows. HasLinkRows shape.now rows.items) }
 {
-    let mut rows = Vec::new(alloc);
+    let mut rows = Vec::with_capacity(alloc, shape.links.len())?;
     let mut area = 1 + 2 * shape.nodes.len();
     for link in shape.links.as_slice() {
         rows.push(link_row(shape, pools, pool_rows, *link, area))?;
@@ -248,7 +248,7 @@ fn pools_rows(
     requires room { word_count shape.now ≤ words }
     ensures { IfOk result (λ rows. HasPoolRows shape.now rows.items) }
 {
-    let mut rows = Vec::new(alloc);
+    let mut rows = Vec::with_capacity(alloc, pools.len())?;
     let mut first = 0;
     let mut base = base;
     for pool in pools {
@@ -259,19 +259,24 @@ fn pools_rows(
     Ok(rows)
 }
 
-/// The rows of a shape whose board has `words` words. Cost: a look at each node for each target,
-/// each link and each number below 64, and at each pool for each link.
-pub(crate) fn rows_of(alloc: Global, shape: &Shape, words: usize) -> Result<Rows, Memory>
+/// The rows of a shape with these pools whose board has `words` words. Cost: a look at each node for
+/// each target, each link and each number below 64, and at each pool for each link.
+pub(crate) fn rows_of(
+    alloc: Global,
+    shape: &Shape,
+    pools: &[PoolShape],
+    words: usize,
+) -> Result<Rows, Memory>
     requires pooled { IsPooledShape shape.now }
+    requires pools { pools.now ≡ pools_of shape.now }
     requires placed { HasIndexes shape.now }
     requires room { word_count shape.now ≤ words }
     ensures { IfOk result (λ rows. HasRows shape.now rows) }
 {
-    let pools = pools_of(alloc, shape)?;
     let areas = areas_of(shape.links.as_slice());
     let base = 1 + 2 * shape.nodes.len() + areas + events_of(shape);
-    let pool_rows = pools_rows(alloc, shape, pools.as_slice(), base, words)?;
-    let links = links_of(alloc, shape, pools.as_slice(), pool_rows.as_slice())?;
+    let pool_rows = pools_rows(alloc, shape, pools, base, words)?;
+    let links = links_of(alloc, shape, pools, pool_rows.as_slice())?;
     Ok(Rows {
         driver: index_in(shape, shape.driver),
         areas,

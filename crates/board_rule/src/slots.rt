@@ -1,8 +1,8 @@
 //! Where a seat has an entry among those that are its own.
-ghost use Rattle.std.specs.Prelude.{◌≡◌, ℕ, ◌+◌, ◌<◌, eqb, IfOk, count_by, length, slice_index};
+ghost use Rattle.std.specs.Prelude.{◌≡◌, ℕ, ◌+◌, ◌<◌, ◌≤◌, All, IfOk, length, slice_index};
 ghost use Rattle.pw_graph.specs.Pools.{pools_of};
 ghost use Rattle.board_rule.specs.OnBoard.{layout};
-ghost use Rattle.board_rule.specs.Layout.{layout_of, nodes};
+ghost use Rattle.board_rule.specs.Layout.{layout_of, HasSeats, nodes};
 ghost use Rattle.board_rule.specs.start.Owners.{owners_of, slot_in, AreSlots};
 ghost use Rattle.board_rule.specs.working.Rows.{HasPoolRows, HasIndexes};
 ghost use Rattle.board_rule.specs.working.Slots.{AreOwners, HasSlots};
@@ -26,46 +26,30 @@ pub struct Slots {
     pub(crate) pools: Vec<usize>,
 }
 
-// How many owners are the seat.
-fn count_of(owners: &[u32], seat: u32) -> usize
-    ensures is { result ≡ count_by (λ o. eqb o seat) owners.now }
-{
-    let mut count = 0;
-    for owner in owners {
-        if *owner == seat {
-            count += 1;
-        }
-    }
-    count
-}
-
-/// The slot of an entry. Cost: a look at each entry before it.
-pub(crate) fn slot_of(owners: &[u32], at: usize) -> usize
-    requires { at < length owners.now }
-    ensures { result ≡ slot_in owners.now at }
-{
-    count_of(&owners[..at], owners[at])
-}
-
-/// The slots of all entries. Cost: for each entry a look at those before it.
-pub(crate) fn slots_of(alloc: Global, owners: &[u32]) -> Result<Vec<usize>, AllocError>
+/// The slots of all entries, whose owners are at most `most`. Cost: a look at each entry, and a count
+/// for each owner.
+pub(crate) fn slots_of(alloc: Global, owners: &[u32], most: u32) -> Result<Vec<usize>, AllocError>
+    requires { All (λ o. o ≤ most) owners.now }
     ensures { IfOk result (λ slots. AreSlots owners.now slots.items) }
 {
-    let mut slots = Vec::new(alloc);
-    for at in 0..owners.len() {
-        slots.push(slot_of(owners, at))?;
+    let mut counts = Vec::from_elem(alloc, 0usize, most as usize + 1)?;
+    let mut slots = Vec::with_capacity(alloc, owners.len())?;
+    for owner in owners {
+        let seat = *owner as usize;
+        slots.push(counts[seat])?;
+        counts[seat] += 1;
     }
     Ok(slots)
 }
 
-// The slots of the first blocks of all pools.
+// The slots of the first blocks of all pools, of the slots of all blocks.
 fn first_slots(
     alloc: Global,
     board_shape: &BoardShape,
-    owners: &[u32],
+    blocks: &[usize],
     pools: &[PoolRow],
 ) -> Result<Vec<usize>, AllocError>
-    requires owners { owners.now ≡ (owners_of (layout_of board_shape.now)).blocks }
+    requires blocks { AreSlots (owners_of (layout_of board_shape.now)).blocks blocks.now }
     requires rows { HasPoolRows board_shape.now.shape pools.now }
     requires placed { HasIndexes board_shape.now.shape }
     ensures count { IfOk result (λ slots. length slots.items
@@ -74,14 +58,14 @@ fn first_slots(
         → slice_index slots.items q ≡ slot_in (owners_of (layout_of board_shape.now)).blocks
         (block_at (layout_of board_shape.now) q 0)) }
 {
-    let mut slots = Vec::new(alloc);
+    let mut slots = Vec::with_capacity(alloc, pools.len())?;
     for pool in pools {
-        slots.push(slot_of(owners, pool.first))?;
+        slots.push(blocks[pool.first])?;
     }
     Ok(slots)
 }
 
-/// The slots of a board. Cost: for each link and pool a look at the entries before it.
+/// The slots of a board. Cost: a look at each node, link and block, and a count for each seat.
 pub(crate) fn slots_in(
     alloc: Global,
     board_shape: &BoardShape,
@@ -89,15 +73,18 @@ pub(crate) fn slots_in(
     pools: &[PoolRow],
 ) -> Result<Slots, AllocError>
     requires owners { AreOwners (layout_of board_shape.now) owners.now }
+    requires seats { HasSeats board_shape.now }
     requires rows { HasPoolRows board_shape.now.shape pools.now }
     requires placed { HasIndexes board_shape.now.shape }
     ensures { IfOk result (λ slots. HasSlots (layout_of board_shape.now) slots) }
 {
+    let most = board_shape.seats;
+    let blocks = slots_of(alloc, owners.blocks.as_slice(), most)?;
     Ok(Slots {
-        nodes: slots_of(alloc, owners.nodes.as_slice())?,
-        writes: slots_of(alloc, owners.writes.as_slice())?,
-        reads: slots_of(alloc, owners.reads.as_slice())?,
-        pools: first_slots(alloc, board_shape, owners.blocks.as_slice(), pools)?,
+        nodes: slots_of(alloc, owners.nodes.as_slice(), most)?,
+        writes: slots_of(alloc, owners.writes.as_slice(), most)?,
+        reads: slots_of(alloc, owners.reads.as_slice(), most)?,
+        pools: first_slots(alloc, board_shape, blocks.as_slice(), pools)?,
     })
 }
 

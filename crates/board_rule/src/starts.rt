@@ -1,7 +1,7 @@
 //! What the nodes, the links and the blocks of a board are at the start, of which each seat takes
 //! its own.
 ghost use Rattle.std.specs.Prelude.{◌≡◌, ◌++◌, IfOk, OnOk, length, map, replicate};
-ghost use Rattle.pw_graph.specs.Pools.{IsPooledShape};
+ghost use Rattle.pw_graph.specs.Pools.{pools_of};
 ghost use Rattle.board_rule.specs.Layout.{layout_of};
 ghost use Rattle.board_rule.specs.start.Owners.{own};
 ghost use Rattle.board_rule.specs.working.Progress.{progress_of};
@@ -13,7 +13,7 @@ use crate::layout::delayed_readers;
 use crate::owners::{OwnerRows, owner_rows};
 use crate::progress::NodeProgress;
 use crate::view::{BlockView, ReadView, WriteView};
-use pw_graph::{NO_BLOCK, PoolShape, Shape, ShapeLink, pools_of};
+use pw_graph::{NO_BLOCK, PoolShape, Shape, ShapeLink};
 use pw_lists::{Items, Memory};
 use std::alloc::{AllocError, Global};
 
@@ -41,13 +41,16 @@ fn push_blocks(blocks: &mut Items<BlockView>, shape: &Shape, pool: &PoolShape) -
 }
 
 // The blocks of all pools of a shape at the start.
-fn first_blocks(alloc: Global, shape: &Shape) -> Result<Items<BlockView>, Memory>
-    requires { IsPooledShape shape.now }
+fn first_blocks(
+    alloc: Global,
+    shape: &Shape,
+    pools: &[PoolShape],
+) -> Result<Items<BlockView>, Memory>
+    requires { pools.now ≡ pools_of shape.now }
     ensures { IfOk result (λ blocks. blocks ≡ first_blocks shape.now) }
 {
-    let pools = pools_of(alloc, shape)?;
     let mut blocks = Items::new(alloc);
-    for pool in pools.as_slice() {
+    for pool in pools {
         push_blocks(&mut blocks, shape, pool)?;
     }
     Ok(blocks)
@@ -86,7 +89,7 @@ fn first_writes(
 ) -> Result<Vec<WriteView>, AllocError>
     ensures { IfOk result (λ writes. writes.items ≡ map (first_write cycle) links.now) }
 {
-    let mut writes = Vec::new(alloc);
+    let mut writes = Vec::with_capacity(alloc, links.len())?;
     for link in links {
         writes.push(first_write(cycle, *link))?;
     }
@@ -107,19 +110,24 @@ fn idle(alloc: Global, nodes: usize, cycle: u64) -> Result<Vec<NodeProgress>, Al
     Vec::from_elem(alloc, node, nodes)
 }
 
-/// What all seats of a board begin with. Cost: a look at each node for each node, link and pool.
-pub(crate) fn starts_of(alloc: Global, board_shape: &BoardShape) -> Result<Starts, Memory>
-    requires { IsPooledShape board_shape.now.shape }
+/// What all seats of a board begin with, by the pools of its shape. Cost: a look at each node for
+/// each node, link and pool.
+pub(crate) fn starts_of(
+    alloc: Global,
+    board_shape: &BoardShape,
+    pools: &[PoolShape],
+) -> Result<Starts, Memory>
+    requires { pools.now ≡ pools_of board_shape.now.shape }
     ensures { IfOk result (λ starts. IsStart (layout_of board_shape.now) starts) }
 {
     let shape = &board_shape.shape;
     let first = u64::from(shape.first);
     Ok(Starts {
-        owners: owner_rows(alloc, board_shape)?,
+        owners: owner_rows(alloc, board_shape, pools)?,
         nodes: idle(alloc, shape.nodes.len(), first)?,
         writes: first_writes(alloc, shape.links.as_slice(), first)?,
         reads: unread(alloc, shape.links.len(), first)?,
-        blocks: first_blocks(alloc, shape)?,
+        blocks: first_blocks(alloc, shape, pools)?,
     })
 }
 
