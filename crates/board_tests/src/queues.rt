@@ -1,6 +1,7 @@
 //! Two loops and the driver's thread: what is sent is received, and what sleeps is woken.
 ghost use Rattle.std.specs.Prelude.{◌≡◌, ◌<◌, IfOk, IfSome};
 ghost use Rattle.ready_queues.specs.AnsweredWith.{IsWayOf};
+ghost use Rattle.ready_queues.specs.Starting.{IsIdle};
 
 use pw_lists::{Items, Memory};
 use ready_queues::{Way, Ways};
@@ -15,6 +16,7 @@ fn two_loops(alloc: Global) -> Result<Option<(Ways, Way, Way, Way)>, Memory>
     ensures driver { IfOk result (λ o. IfSome o (λ t. IsWayOf t.0 t.1)) }
     ensures first { IfOk result (λ o. IfSome o (λ t. IsWayOf t.0 t.2 × (t.2.number ≡ 0))) }
     ensures second { IfOk result (λ o. IfSome o (λ t. IsWayOf t.0 t.3 × (t.3.number ≡ 1))) }
+    ensures idle { IfOk result (λ o. IfSome o (λ t. IsIdle t.2 × IsIdle t.3)) }
 {
     let owner = Items::from_slice(alloc, &[0, 0, 1, 2])?;
     let (ways, driver, mut others) = Ways::new(alloc, &owner, 2)?;
@@ -175,6 +177,7 @@ fn forwarded_wakes_others<R: Wait>(
     requires driver { IsWayOf ways.now driver.old }
     requires first { IsWayOf ways.now first.old × (first.old.number ≡ 0) }
     requires second { IsWayOf ways.now second.old × (second.old.number ≡ 1) }
+    requires idle { IsIdle first.old × IsIdle second.old }
 {
     ways.start(first);
     ways.start(second);
@@ -209,11 +212,35 @@ fn driver_is_woken<R: Wait>(
     requires loops { ways.now.loops ≡ 2 }
     requires driver { IsWayOf ways.now driver.old }
     requires second { IsWayOf ways.now second.old × (second.old.number ≡ 1) }
+    requires idle { IsIdle second.old }
 {
     ways.start(second);
     let sent = ways.forward(rt, second, 1);
     ways.rest(rt, driver);
     sent == 0 && (first.taken(), second.taken()) == (0, 0)
+}
+
+// A start is seen: before it the driver is called for a node of the loop, and after it no more.
+fn start_is_seen<R: Wait>(
+    rt: &R,
+    ways: &Ways,
+    driver: &mut Way,
+    first: &mut Way,
+    second: &mut Way,
+) -> bool
+    requires loops { ways.now.loops ≡ 2 }
+    requires driver { IsWayOf ways.now driver.old }
+    requires first { IsWayOf ways.now first.old }
+    requires second { IsWayOf ways.now second.old × (second.old.number ≡ 1) }
+    requires idle { IsIdle second.old }
+{
+    let before = ways.forward(rt, first, 4);
+    let called = ways.is_called_soon(driver);
+    ways.rest(rt, driver);
+    ways.start(second);
+    let after = ways.forward(rt, first, 4);
+    let spared = !ways.is_called_soon(driver);
+    [before, after] == [0, 0] && called && spared
 }
 
 // Who is called sees it: the loop of a pushed node until it finds its queue empty, and the driver's
@@ -229,6 +256,7 @@ fn calls_are_seen<R: Wait>(
     requires driver { IsWayOf ways.now driver.old }
     requires first { IsWayOf ways.now first.old × (first.old.number ≡ 0) }
     requires second { IsWayOf ways.now second.old × (second.old.number ≡ 1) }
+    requires idle { IsIdle first.old }
 {
     ways.start(first);
     let before = [ways.is_called_soon(first), ways.is_called_soon(driver)];
@@ -249,7 +277,7 @@ fn calls_are_seen<R: Wait>(
         && (first.number(), second.number(), driver.number()) == (0, 1, 2)
 }
 
-// One of these seven, by its number.
+// One of these eight, by its number.
 fn goes<R: Wait>(
     rt: &R,
     which: u32,
@@ -262,6 +290,7 @@ fn goes<R: Wait>(
     requires driver { IsWayOf ways.now driver.old }
     requires first { IsWayOf ways.now first.old × (first.old.number ≡ 0) }
     requires second { IsWayOf ways.now second.old × (second.old.number ≡ 1) }
+    requires idle { IsIdle first.old × IsIdle second.old }
 {
     match which {
         0 => woken_is_received(rt, ways, driver, first, second),
@@ -271,6 +300,7 @@ fn goes<R: Wait>(
         4 => driver_is_woken(rt, ways, driver, first, second),
         5 => calls_are_seen(rt, ways, driver, first, second),
         6 => none_only_of_an_empty_queue(rt, ways, driver, first),
+        7 => start_is_seen(rt, ways, driver, first, second),
         _ => false,
     }
 }
@@ -287,7 +317,7 @@ fn goes_anew<R: Wait>(rt: &R, alloc: Global, which: u32) -> bool {
 
 // The first that goes otherwise.
 fn first_unlike<R: Wait>(rt: &R, alloc: Global) -> Option<u32> {
-    for which in 0..7 {
+    for which in 0..8 {
         if !goes_anew(rt, alloc, which) {
             return Some(which);
         }

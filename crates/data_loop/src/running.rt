@@ -210,7 +210,7 @@ pub fn run_all<R: Wait, G: Gate>(
 {
     let mut state = state;
     let mut way = way;
-    ways.start(&way);
+    ways.start(&mut way);
     while !state.at_end() {
         go_through(rt, boards, &mut state, ways, &mut way, gate);
     }

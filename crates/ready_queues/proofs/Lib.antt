@@ -1,6 +1,8 @@
 pub mod QueueLemmas
 pub mod ParkingLemmas
+pub mod StartLemmas
 pub mod EndLemmas
+pub mod SightLemmas
 pub mod PopLemmas
 pub mod SendLemmas
 pub mod OpeningLemmas

@@ -7,6 +7,7 @@ use Rattle.atomic_table.specs.Seated.{TableId}
 use Rattle.atomic_table.specs.declared.shared.Seat.{Seat}
 use Rattle.crossbeam_utils.specs.Token.{parker_view}
 use Rattle.ready_queues.specs.declared.parking.Woken.{Woken}
+use Rattle.ready_queues.specs.declared.start_view.StartView.{StartView}
 use Rattle.ready_queues.specs.declared.hand.Hand.{Hand}
 use Rattle.ready_queues.specs.declared.end.End.{End}
 use Rattle.ready_queues.specs.declared.lane.Lane.{Lane}
@@ -18,6 +19,9 @@ use Rattle.ready_queues.proofs.EndLemmas.{some_is, slice_at_set}
 
 abbrev ParkPass : Type 0
 ParkPass = Seat (Unit {0}) Woken
+
+abbrev StartSeat : Type 0
+StartSeat = Seat (Unit {0}) StartView
 
 slice_at_snoc : {A : Type 0} (xs : List A) (x a : A) (l : ℕ) → slice_get (xs ++ x ∷ []) l ≡ Some a → (slice_get xs l ≡ Some a) ⊎ ((l ≡ length xs) × (x ≡ a))
 slice_at_snoc [] x a zero e = inr (refl, some_is x a e)
@@ -106,14 +110,16 @@ dealt_at owner lanes slice ends k x d new same is low are f lane at = let count 
 
 module _ (owner : List ℕ) (lanes : List Lane) (driver : TableId) (ways : List Way) (k : ℕ) (dw new : Way) (ends : List End) (low : k < length lanes) (count : length ways ≡ length lanes) (bare : AreBare lanes driver ways) (ends_are : new.ends.items ≡ ends) (fresh : AreFreshEnds owner lanes ends) where
   -- a way that got its ends is as bare as before
-  pub equipped_bare : (new.number ≡ (get_or ways k dw).number) × (new.own ≡ (get_or ways k dw).own) × (new.driver ≡ (get_or ways k dw).driver) → AreBare lanes driver (set ways k new)
-  equipped_bare thread = one_set (λ j lane w. IsBareWay (parker_of lane) driver j w) lanes ways k new bare (λ lane at.
+  pub equipped_bare : (new.number ≡ (get_or ways k dw).number) × (new.own ≡ (get_or ways k dw).own) × (new.driver ≡ (get_or ways k dw).driver) × (new.begins ≡ (get_or ways k dw).begins) → AreBare lanes driver (set ways k new)
+  equipped_bare thread = one_set (λ j lane w. IsBareWay lane driver j w) lanes ways k new bare (λ lane at.
       let b = bare k lane (get_or ways k dw) at (slice_get-get_or ways k dw (omega arith)) in record {
         loop_is = thread.0 ∙ b.loop_is;
         parker_is = ap (λ (p : ParkPass). p.table_id) thread.1 ∙ b.parker_is;
         driver_is = ap (λ (p : ParkPass). p.table_id) thread.2 ∙ b.driver_is;
+        begins_is = ap (λ (p : StartSeat). p.table_id) thread.3 ∙ b.begins_is;
         own = ap (λ (p : ParkPass). parker_view p) thread.1 ∙ b.own;
         gave = ap (λ (p : ParkPass). parker_view p) thread.2 ∙ b.gave;
+        idle = ap (λ (p : StartSeat). p.me.0) thread.3 ∙ b.idle;
         empty = ap received_by ends_are ∙ fresh.none;
       })
 

@@ -10,7 +10,7 @@ use Rattle.ready_queues.specs.declared.end.End.{End}
 use Rattle.ready_queues.specs.declared.lane.Lane.{Lane}
 use Rattle.ready_queues.specs.Hands.{with_received}
 use Rattle.ready_queues.specs.QueueRule.{IsNodeOf, IsHandOf}
-use Rattle.ready_queues.specs.Ends.{hand_of, wakes_of, AreEndsOf, received_by}
+use Rattle.ready_queues.specs.Ends.{hand_of, wakes_of, sight_of, AreEndsOf, received_by}
 use Rattle.ready_queues.specs.Receiving.{IsSameEnd, AreSameEnds, HasReceivedAt, HasReceived}
 use Rattle.ready_queues.proofs.EndLemmas.{related, end_at, ends_set}
 
@@ -33,6 +33,7 @@ module _ (owner : List ℕ) (lanes : List Lane) (ends : List End) (are : AreEnds
   pop_ends result p = ends_set owner lanes ends are number new (λ lane at. let e = are.each number lane old at (there lane) in record {
     pass = (same.0 ∙ e.pass.0, same.2 ∙ e.pass.1);
     wake = e.wake;
+    start = e.start;
     hand = same_loop owner number result (hand_of old) (view pass) e.hand p;
   })
     where
@@ -47,16 +48,17 @@ module _ (owner : List ℕ) (lanes : List Lane) (ends : List End) (are : AreEnds
   pub pop_some : (result : Option ℕ) → Popped result (hand_of old) (view pass) → IfSome result (λ x. HasReceived number x ends (set ends number new))
   pop_some None p = tt
   pop_some (Some x) p = related (HasReceivedAt number x) ends number new
-      (λ j e other. record { hand = sym (ap (λ b. cond b (with_received (hand_of e) x) (hand_of e)) (ne_eqb j number other)); wakes = refl })
+      (λ j e other. record { hand = sym (ap (λ b. cond b (with_received (hand_of e) x) (hand_of e)) (ne_eqb j number other)); wakes = refl; sight = refl })
       (λ e at. let is : old ≡ e = get_or_from_slice_get ends number e d at in record {
         hand = p.0 ∙ ap (λ (f : End). with_received (hand_of f) x) is ∙ sym (ap (λ b. cond b (with_received (hand_of e) x) (hand_of e)) (eq-eqb number number refl));
         wakes = ap wakes_of is;
+        sight = ap sight_of is;
       })
 
   pub pop_none : (result : Option ℕ) → Popped result (hand_of old) (view pass) → IfNone result (AreSameEnds ends (set ends number new))
   pop_none (Some x) p = tt
-  pop_none None p = related (λ j a b. IsSameEnd a b) ends number new (λ j e other. record { hand = refl; wakes = refl })
-      (λ e at. let is : old ≡ e = get_or_from_slice_get ends number e d at in record { hand = p.0 ∙ ap hand_of is; wakes = ap wakes_of is })
+  pop_none None p = related (λ j a b. IsSameEnd a b) ends number new (λ j e other. record { hand = refl; wakes = refl; sight = refl })
+      (λ e at. let is : old ≡ e = get_or_from_slice_get ends number e d at in record { hand = p.0 ∙ ap hand_of is; wakes = ap wakes_of is; sight = ap sight_of is })
 
   pub pop_count : (result : Option ℕ) → Popped result (hand_of old) (view pass) → received_by (set ends number new) ≡ received_by ends + cond (is_some result) 1 0
   pop_count result p = let n = are.count in let f : End → ℕ = λ e. length (hand_of e).received in

@@ -5,6 +5,7 @@ use Rattle.std.specs.Arc.{arc_value}
 use Rattle.atomic_table.specs.Seated.{TableId}
 use Rattle.crossbeam_utils.specs.declared.sync.parker.RuledUnparker.{RuledUnparker}
 use Rattle.ready_queues.specs.declared.lane.Lane.{Lane}
+use Rattle.ready_queues.specs.declared.start_word.StartWord.{StartWord}
 
 -- the loops of a run, beside the driver's own
 abbrev pub loops_limit : ℕ
@@ -17,3 +18,10 @@ unparks unparker = let words = (arc_value unparker.state).shared in words.table_
 -- the parker of a loop
 abbrev pub parker_of : Lane → TableId
 parker_of lane = unparks lane.unparker
+
+-- the table of a start word, and that of a loop
+abbrev pub start_table : StartWord → TableId
+start_table word = let words = word.table.shared in words.table_id
+
+abbrev pub start_of : Lane → TableId
+start_of lane = start_table lane.started

@@ -1,11 +1,14 @@
 pub mod Hands
 pub mod QueueRule
+pub mod StartRule
 pub mod ParkingRule
 pub mod Lanes
 pub mod Looking
 pub mod Ends
 pub mod AnsweredWith
+pub mod Starting
 pub mod Sending
+pub mod Watching
 pub mod Forwarding
 pub mod Receiving
 pub mod Opening

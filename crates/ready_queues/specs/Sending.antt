@@ -8,7 +8,7 @@ use Rattle.crossbeam_utils.specs.Token.{parker_view}
 use Rattle.ready_queues.specs.declared.hand.Hand.{Hand}
 use Rattle.ready_queues.specs.declared.end.End.{End}
 use Rattle.ready_queues.specs.declared.way.Way.{Way}
-use Rattle.ready_queues.specs.Ends.{hand_of, wakes_of}
+use Rattle.ready_queues.specs.Ends.{hand_of, wakes_of, AreSameSights}
 use Rattle.ready_queues.specs.ParkingRule.{given_on}
 use Rattle.ready_queues.specs.QueueRule.{IsNodeOf}
 
@@ -73,4 +73,6 @@ pub record HasSent (owner : List ℕ) (loops woke full : ℕ) (a b : Way) : Type
   pub own : parker_view b.own ≡ parker_view a.own
   pub ends : HaveSent owner loops woke full (length owner) a.ends.items b.ends.items
   pub driver : parker_view b.driver ≡ given_on (parker_view a.driver) 1
+  pub begins : b.begins ≡ a.begins
+  pub sights : AreSameSights a.ends.items b.ends.items
   pub refused : (node : ℕ) → bit_at full node ≡ 1 → IsRefused owner loops woke node

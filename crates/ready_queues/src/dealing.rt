@@ -27,6 +27,7 @@ impl End {
             number: self.number,
             pass: lane.queue.another::<Dealing>(&mut self.pass),
             wake: lane.unparker.pass(),
+            sight: lane.started.another(&mut self.sight),
         }
     }
 }
@@ -37,7 +38,7 @@ impl Way {
         requires old { received_by self.old.ends.items ≡ 0 }
         requires new { received_by ends ≡ 0 }
         ensures thread { (self.new.number ≡ self.old.number) × (self.new.own ≡ self.old.own)
-            × (self.new.driver ≡ self.old.driver) }
+            × (self.new.driver ≡ self.old.driver) × (self.new.begins ≡ self.old.begins) }
         ensures ends { self.new.ends.items ≡ ends }
     {
         self.ends = ends.into_vec();

@@ -8,6 +8,9 @@
 //! `send` unparks the driver's thread too, always. `forward` unparks only who needs it: the loop of
 //! each node, but not the one whose thread makes the call; and the driver's thread for a node of
 //! its own, or of a loop that no thread was seen to `start`, which the driver's thread may run.
+//!
+//! Only a loop's own way can be started, and once. So a way that was not started is that of a loop
+//! that no thread was seen to run.
 #![tactic(auto)]
 
 mod call;
@@ -21,7 +24,12 @@ mod opening;
 mod parking;
 mod queue;
 mod receiving;
+mod safety;
 mod sending;
+mod start_rule;
+mod start_view;
+mod start_word;
+mod starting;
 mod way;
 mod ways;
 
@@ -29,5 +37,8 @@ pub use call::Look;
 pub use hand::Hand;
 pub use parking::{ParkingRule, Woken};
 pub use queue::QueueRule;
+pub use safety::no_start_is_seen;
+pub use start_rule::StartRule;
+pub use start_view::StartView;
 pub use way::Way;
 pub use ways::Ways;

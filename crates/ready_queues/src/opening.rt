@@ -4,7 +4,7 @@ ghost use Rattle.crossbeam_queue.specs.Passes.{view, IsPassOf, ruled_capacity};
 ghost use Rattle.crossbeam_utils.specs.Token.{parker_view};
 ghost use Rattle.ready_queues.specs.declared.way.Way.{Way};
 ghost use Rattle.ready_queues.specs.Hands.{hand};
-ghost use Rattle.ready_queues.specs.Lanes.{loops_limit, parker_of, unparks};
+ghost use Rattle.ready_queues.specs.Lanes.{loops_limit, unparks};
 ghost use Rattle.pw_lists.specs.Limits.{dummy_node};
 ghost use Rattle.ready_queues.specs.Opening.{IsFreshEnd, AreFreshEnds, IsBareWay, AreBare, IsNewWay};
 ghost use Rattle.ready_queues.specs.ParkingRule.{woken};
@@ -14,13 +14,13 @@ use crate::end::End;
 use crate::lane::Lane;
 use crate::parking::{ParkPass, Parker, Unparker};
 use crate::queue::{Named, Naming, Queue, QueuePass};
+use crate::starting::open_start;
 use crate::way::Way;
 use crate::ways::Ways;
 use pw_graph::NODES;
 use pw_lists::{Items, Memory};
 use std::alloc::Global;
 use std::marker::Brand;
-use std::sync::atomic::AtomicU64;
 
 // A queue that is named for its loop, with one pass to it. The name is given at the call, by these
 // arguments.
@@ -84,25 +84,33 @@ fn open_loop(
     ensures room { IfOk result (λ o. ruled_capacity o.lane.queue ≡ 64) }
     ensures end { IfOk result (λ o. IsFreshEnd owner.now number o.lane o.end) }
     ensures way { IfOk result (λ o.
-        IsBareWay (parker_of o.lane) (unparks driver.now) number o.way) }
+        IsBareWay o.lane (unparks driver.now) number o.way) }
 {
     let (queue, pass) = queue_of(alloc, owner, number)?;
     let (parker, own, unparker) = parker_of(alloc)?;
+    let (started, mut begins) = open_start(alloc)?;
     let wake = unparker.pass();
+    let sight = started.another(&mut begins);
     let driver = driver.pass();
     Ok(Opened {
         lane: Lane {
             queue,
             unparker,
-            started: AtomicU64::new(0),
+            started,
             call: Call::new(),
         },
-        end: End { number, pass, wake },
+        end: End {
+            number,
+            pass,
+            wake,
+            sight,
+        },
         way: Way {
             number,
             parker,
             own,
             driver,
+            begins,
             ends: Vec::new(alloc),
             taken: 0,
             rested: 0,
@@ -168,6 +176,8 @@ impl Ways {
     {
         let owner = owner.copy(alloc)?;
         let (parker, own, unparker) = parker_of(alloc)?;
+        // The driver's thread runs no loop of its own: its way has a seat of a word of nobody's.
+        let (_unread, begins) = open_start(alloc)?;
         let OpenedLoops { lanes, ends, ways } = open_loops(alloc, &owner, &unparker, loops)?;
         let mut ends = ends.into_vec();
         let mut others = ways.into_vec();
@@ -185,6 +195,7 @@ impl Ways {
             parker,
             own,
             driver,
+            begins,
             ends,
             taken: 0,
             rested: 0,

@@ -3,7 +3,7 @@ ghost use Rattle.std.specs.Prelude.{◌≡◌, ℕ, ◌<◌, cond, false, [], �
 ghost use Rattle.std.specs.Int.{bit_at};
 ghost use Rattle.crossbeam_queue.specs.Passes.{ruled_capacity};
 ghost use Rattle.ready_queues.specs.AnsweredWith.{IsWayOf};
-ghost use Rattle.ready_queues.specs.Ends.{AreEndsOf, IsEndOf, hand_of, wakes_of, received_by};
+ghost use Rattle.ready_queues.specs.Ends.{AreEndsOf, IsEndOf, AreSameSights, hand_of, wakes_of, sight_of, received_by};
 ghost use Rattle.ready_queues.specs.QueueRule.{IsNodeOf};
 ghost use Rattle.ready_queues.specs.Sending.{AreSentNode, HaveSent, IsOfSomeLoop, IsRefused, pushed_on};
 ghost use Rattle.ready_queues.specs.ParkingRule.{given_on};
@@ -31,6 +31,7 @@ impl End {
         ensures hand { hand_of self.new
             ≡ pushed_on (hand_of self.old) (cond result [] (node ∷ [])) }
         ensures wakes { wakes_of self.new ≡ given_on (wakes_of self.old) (cond unparks 1 0) }
+        ensures sight { sight_of self.new ≡ sight_of self.old }
     {
         let full = lane
             .queue
@@ -68,6 +69,7 @@ impl Ways {
         requires inside { node < length self.now.owner }
         ensures ends { AreEndsOf self.now.owner self.now.lanes ends.new }
         ensures sent { AreSentNode self.now.owner spared node result ends.old ends.new }
+        ensures sights { AreSameSights ends.old ends.new }
         ensures full { IsTrue result → IsOfSomeLoop self.now.owner self.now.loops node }
         ensures count { received_by ends.new ≡ received_by ends.old }
     {
@@ -87,6 +89,7 @@ impl Ways {
         ensures ends { AreEndsOf self.now.owner self.now.lanes ends.new }
         ensures sent { HaveSent self.now.owner spared woke result (length self.now.owner)
             ends.old ends.new }
+        ensures sights { AreSameSights ends.old ends.new }
         ensures refused { (node : ℕ) → bit_at result node ≡ 1
             → IsRefused self.now.owner self.now.loops woke node }
         ensures count { received_by ends.new ≡ received_by ends.old }
@@ -107,6 +110,7 @@ impl Ways {
         ensures thread { IsSameThread way.old way.new }
         ensures sent { HaveSent self.now.owner spared woke result (length self.now.owner)
             way.old.ends.items way.new.ends.items }
+        ensures sights { AreSameSights way.old.ends.items way.new.ends.items }
         ensures refused { (node : ℕ) → bit_at result node ≡ 1
             → IsRefused self.now.owner self.now.loops woke node }
     {

@@ -6,15 +6,17 @@ ghost use Rattle.ready_queues.specs.Lanes.{unparks};
 
 use crate::end::End;
 use crate::parking::{ParkPass, Parker};
+use crate::start_rule::StartSeat;
 
-/// What one thread has of the queues and parkers: its own parker, and its passes to all. It is
-/// answered by `Ways::new` and goes with its thread.
+/// What one thread has of the queues and parkers: its own parker, its passes to all, and the right
+/// to start. It is answered by `Ways::new` and goes with its thread.
 #[derive(Drop)]
 pub struct Way {
     pub(crate) number: u32,
     pub(crate) parker: Parker,
     pub(crate) own: ParkPass,
     pub(crate) driver: ParkPass,
+    pub(crate) begins: StartSeat,
     pub(crate) ends: Vec<End>,
     pub(crate) taken: u64,
     pub(crate) rested: u64,

@@ -107,7 +107,7 @@ pub(crate) fn run_worker<R: Wait, G: Gate>(
 {
     let mut claimant = claimant;
     let backoff = Backoff::new();
-    shared.ways.start(&claimant.way);
+    shared.ways.start(&mut claimant.way);
     for _ in rt.forever() {
         if is_over(rt, gate, shared, &mut claimant, &backoff) {
             break;

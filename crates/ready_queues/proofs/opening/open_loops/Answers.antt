@@ -5,7 +5,7 @@ use Rattle.crossbeam_queue.specs.Passes.{ruled_capacity}
 use Rattle.ready_queues.specs.declared.end.End.{End}
 use Rattle.ready_queues.specs.declared.lane.Lane.{Lane}
 use Rattle.ready_queues.specs.declared.way.Way.{Way}
-use Rattle.ready_queues.specs.Lanes.{unparks, parker_of}
+use Rattle.ready_queues.specs.Lanes.{unparks}
 use Rattle.ready_queues.specs.Ends.{received_by}
 use Rattle.ready_queues.specs.Opening.{IsFreshEnd, AreFresh, IsBareWay, AreBare}
 use Rattle.ready_queues.proofs.OpeningLemmas.{both_snoc, received_more}
@@ -25,6 +25,6 @@ loop-number-preserved c = let l = c.loop-number in let i = l.invariant in let o 
       fresh = subst (λ (x : List Lane × List End). AreFresh owner x.0 x.1) (λ j. (sym lanes j, sym ends j)) (both_snoc (IsFreshEnd owner) l.lanes l.ends lane end (n ∙ sym m) i.fresh
           (subst (λ (x : ℕ). IsFreshEnd owner x lane end) (sym n) o.ensures.end));
       none = ap received_by ends ∙ received_more owner l.lanes l.ends l.number lane end i.none o.ensures.end;
-      bare = subst (λ (x : List Lane × List Way). AreBare x.0 driver x.1) (λ j. (sym lanes j, sym ways j)) (both_snoc (λ x (y : Lane) (z : Way). IsBareWay (parker_of y) driver x z) l.lanes l.ways lane way (n ∙ sym k) i.bare
-          (subst (λ (x : ℕ). IsBareWay (parker_of lane) driver x way) (sym n) o.ensures.way));
+      bare = subst (λ (x : List Lane × List Way). AreBare x.0 driver x.1) (λ j. (sym lanes j, sym ways j)) (both_snoc (λ x (y : Lane) (z : Way). IsBareWay y driver x z) l.lanes l.ways lane way (n ∙ sym k) i.bare
+          (subst (λ (x : ℕ). IsBareWay lane driver x way) (sym n) o.ensures.way));
     }

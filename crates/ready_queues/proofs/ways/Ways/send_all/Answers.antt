@@ -1,9 +1,10 @@
 use Rattle.std.proofs.Common.{◌∙◌, arith, refl}
 use Rattle.ready_queues.proofs.SendLemmas.{begins, not_yet, goes_on, all_sent}
+use Rattle.ready_queues.proofs.SightLemmas.{same_all, same_more}
 use Rattle.ready_queues.proofs.ways.Ways.send_all.Goals as goal
 
 pub loop-node-init : goal.loop-node-init
-loop-node-init g c = let ways = c.args.self.now in (c.requires.ends, (0, begins ways.owner ways.loops c.args.spared c.args.woke c.args.ends.now), refl)
+loop-node-init g c = let ways = c.args.self.now in (c.requires.ends, (0, begins ways.owner ways.loops c.args.spared c.args.woke c.args.ends.now), refl, same_all c.args.ends.now)
 
 pub noted-full-requires-clause-new : goal.noted-full-requires-clause-new
 noted-full-requires-clause-new g c = let ways = c.args.self.now in let l = c.loop-node in let i = l.invariant.1 in
@@ -19,6 +20,7 @@ loop-node-preserved g c = let ways = c.args.self.now in let l = c.loop-node in l
             (omega (arith, first.0, c.len.ensures)) first.1 first.2 few long w.ensures.here w.ensures.others s.ensures.sent s.ensures.full cut.here cut.others,
       ),
       s.ensures.count ∙ i.2,
+      same_more c.args.ends.now l.ends s.new.ends long i.3 s.ensures.sights,
     )
 
 pub returns-clause-sent : goal.returns-clause-sent
@@ -28,3 +30,6 @@ returns-clause-sent g c = let ways = c.args.self.now in let l = c.loop-node in l
 
 pub returns-clause-refused : goal.returns-clause-refused
 returns-clause-refused g c = c.loop-node.invariant.1.1.refused
+
+pub returns-clause-sights : goal.returns-clause-sights
+returns-clause-sights g c = c.loop-node.invariant.3

@@ -1,7 +1,7 @@
 use Rattle.std.proofs.Common.{List, ◌∙◌, sym, ap, subst, length, min, ◌^◌, ◌-◌}
 use Rattle.std.proofs.lemmas.List.{with_items_is}
 use Rattle.ready_queues.specs.declared.end.End.{End}
-use Rattle.ready_queues.specs.Ends.{received_by}
+use Rattle.ready_queues.specs.Ends.{received_by, AreSameSights}
 use Rattle.ready_queues.specs.Sending.{HaveSent}
 use Rattle.ready_queues.proofs.ways.Ways.send_sparing.Goals as goal
 
@@ -19,3 +19,9 @@ returns-clause-sent g c = let way = c.args.way.now in let t = c.send_all in let 
     let now = with_items_is way.ends t.new.ends (t.auto.ends ∙ c.as_mut_slice.ensures.len) in
     let was = c.as_mut_slice.ensures.value in
     subst (λ (l : List End × List End). HaveSent owner c.args.spared c.args.woke t.result (length owner) l.0 l.1) (λ i. (was i, sym now i)) t.ensures.sent
+
+pub returns-clause-sights : goal.returns-clause-sights
+returns-clause-sights g c = let way = c.args.way.now in let t = c.send_all in
+    let now = with_items_is way.ends t.new.ends (t.auto.ends ∙ c.as_mut_slice.ensures.len) in
+    let was = c.as_mut_slice.ensures.value in
+    subst (λ (l : List End × List End). AreSameSights l.0 l.1) (λ i. (was i, sym now i)) t.ensures.sights
