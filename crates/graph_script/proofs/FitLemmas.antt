@@ -26,7 +26,7 @@ use Rattle.graph_script.specs.FileNodes as files
 use Rattle.graph_script.specs.NodeCommands as nodes
 use Rattle.graph_script.specs.PortCommands as ports
 use Rattle.graph_script.specs.GraphCommands as graph
-use Rattle.graph_script.specs.CommandNames.{command_called}
+use Rattle.graph_script.specs.CommandWords.{name_called}
 use Rattle.graph_script.specs.Commands.{meaning_of_command, meaning_of_words}
 use Rattle.graph_script.specs.Ranges.{IsInRange, HasNodes}
 use Rattle.graph_script.specs.Kinds.{made_by, HasPorts}
@@ -341,5 +341,5 @@ pub meaning_of_words-fits : (reading : Reading) (words : List (List ℕ)) (parse
     → IsFit reading parsed
 meaning_of_words-fits reading [] parsed e = cc
 meaning_of_words-fits reading (name ∷ words) parsed e =
-    let command = from_bind (ok_or (command_called name) W.Command) _ parsed e in
+    let command = from_bind (ok_or (name_called name) W.Command) _ parsed e in
     meaning_of_command-fits reading command.0 words parsed command.2

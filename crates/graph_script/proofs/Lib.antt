@@ -15,6 +15,7 @@ pub mod RangeLemmas
 pub mod SoundLemmas
 pub mod SpacedLemmas
 pub mod SpelledLemmas
+pub mod TableLemmas
 pub mod TextLemmas
 pub mod ConsistentLemmas
 pub mod WordLemmas

@@ -2,7 +2,6 @@
 use Rattle.std.proofs.Common.{◌≡◌, ℕ, ◌+◌, ◌<◌, ◌≤◌, Bool, true, false, cond, List, [], ◌∷◌, ◌++◌, length, get_or, refl, sym, ap, ◌∙◌, subst, arith}
 use Rattle.std.proofs.Common.{decimal, codes, length-append, append-nil}
 use Rattle.std.specs.Prelude.{Option, Some, None, ok_or, Ok, nat_lt, nat_le, pos, bytes_eq}
-use Rattle.std.specs.Option.{option_or}
 use Rattle.std.proofs.lemmas.List.{get_or_append_left, get_or-append-add}
 use Rattle.std.proofs.lemmas.Slice.Eq.{bytes_eq-Decides}
 use Rattle.pw_graph.specs.declared.ids.PortId.{PortId}
@@ -26,8 +25,7 @@ use Rattle.graph_script.specs.FileNodes as files
 use Rattle.graph_script.specs.NodeCommands as nodes
 use Rattle.graph_script.specs.PortCommands as ports
 use Rattle.graph_script.specs.GraphCommands as graph
-use Rattle.graph_script.specs.CommandNames.{node_command_called, graph_command_called, time_command_called, command_called}
-use Rattle.graph_script.specs.CommandWords.{name_word, name_of, command_word}
+use Rattle.graph_script.specs.CommandWords.{names, word_of, name_among, name_called, name_of, command_word}
 use Rattle.graph_script.specs.Commands.{meaning_of_command, meaning_of_words}
 use Rattle.graph_script.specs.Grammar.{reading_after}
 use Rattle.graph_script.specs.Printing.{node_word, endpoint_word, args_of}
@@ -404,64 +402,24 @@ meaning_of_command-spelled reading names kinds N.Async words parsed e front = as
 meaning_of_command-spelled reading names kinds N.Cycles words parsed e front = cycles-spelled reading names kinds words parsed e front
 meaning_of_command-spelled reading names kinds N.Drain words parsed e front = drain-spelled reading names kinds words parsed e front
 
--- a command's name is its word
-choose : (word : List ℕ) (text : List ℕ) (name found : Name) (more : Option Name) → name_word name ≡ text
-    → (more ≡ Some found → name_word found ≡ word)
-    → cond (bytes_eq word text) (Some name) more ≡ Some found → name_word found ≡ word
-choose word text name found more spells rest = at (bytes_eq word text) refl
+-- a command that is called by a word has that word; over any list of commands
+called_first : (first found : Name) (more : Option Name) (word : List ℕ) → (more ≡ Some found → word_of found ≡ word)
+    → cond (bytes_eq word (word_of first)) (Some first) more ≡ Some found → word_of found ≡ word
+called_first first found more word rest = at (bytes_eq word (word_of first)) refl
   where
-    at : (b : Bool) → bytes_eq word text ≡ b → cond b (Some name) more ≡ Some found → name_word found ≡ word
+    at : (b : Bool) → bytes_eq word (word_of first) ≡ b → cond b (Some first) more ≡ Some found → word_of found ≡ word
     at true is e =
-        let same : name ≡ found = cc in
-        ap name_word (sym same) ∙ spells ∙ sym ((bytes_eq-Decides word text).0 is)
+        let same : first ≡ found = cc in
+        ap word_of (sym same) ∙ sym ((bytes_eq-Decides word (word_of first)).0 is)
     at false is e = rest e
 
-node_command-word : (word : List ℕ) (found : Name) → node_command_called word ≡ Some found → name_word found ≡ word
-unfolding node_command_called
-node_command-word word found =
-    choose word (codes "source") N.Source found _ refl (
-    choose word (codes "square") N.Square found _ refl (
-    choose word (codes "gain") N.Gain found _ refl (
-    choose word (codes "mix2") N.Mix2 found _ refl (
-    choose word (codes "delay") N.Delay found _ refl (
-    choose word (codes "map") N.Map found _ refl (
-    choose word (codes "split") N.Split found _ refl (
-    choose word (codes "sink") N.Sink found _ refl (
-    choose word (codes "meter") N.Meter found _ refl (
-    λ e. cc)))))))))
+name_among-word : (list : List Name) (word : List ℕ) (found : Name) → name_among list word ≡ Some found → word_of found ≡ word
+name_among-word [] word found e = cc
+name_among-word (first ∷ more) word found e =
+    called_first first found (name_among more word) word (λ h. name_among-word more word found h) e
 
-graph_command-word : (word : List ℕ) (found : Name) → graph_command_called word ≡ Some found → name_word found ≡ word
-unfolding graph_command_called
-graph_command-word word found =
-    choose word (codes "link") N.Link found _ refl (
-    choose word (codes "unlink") N.Unlink found _ refl (
-    choose word (codes "offer") N.Offer found _ refl (
-    choose word (codes "buffers") N.Buffers found _ refl (
-    choose word (codes "driver") N.Driver found _ refl (
-    choose word (codes "loop") N.Loop found _ refl (
-    choose word (codes "on") N.On found _ refl (
-    choose word (codes "off") N.Off found _ refl (
-    choose word (codes "async") N.Async found _ refl (
-    λ e. cc)))))))))
-
-time_command-word : (word : List ℕ) (found : Name) → time_command_called word ≡ Some found → name_word found ≡ word
-unfolding time_command_called
-time_command-word word found =
-    choose word (codes "quantum") N.Quantum found _ refl (
-    choose word (codes "cycles") N.Cycles found _ refl (
-    choose word (codes "drain") N.Drain found _ refl (
-    λ e. cc)))
-
-either_found : (a b : Option Name) (found : Name) (P : Type 0) → (a ≡ Some found → P) → (b ≡ Some found → P) → option_or a b ≡ Some found → P
-either_found None b found P f g e = g e
-either_found (Some x) b found P f g e = f e
-
-command_called-word : (word : List ℕ) (found : Name) → command_called word ≡ Some found → name_word found ≡ word
-command_called-word word found =
-    either_found (node_command_called word) (option_or (graph_command_called word) (time_command_called word)) found _
-    (node_command-word word found)
-    (either_found (graph_command_called word) (time_command_called word) found _
-    (graph_command-word word found) (time_command-word word found))
+name_called-word : (word : List ℕ) (found : Name) → name_called word ≡ Some found → word_of found ≡ word
+name_called-word word found e = name_among-word names word found e
 
 -- THE WORDS of what a line says are those of the line
 pub words_spelled : (reading : Reading) (names : List (List ℕ)) (kinds : List Kind) (words : List (List ℕ)) (parsed : ParsedLine)
@@ -469,7 +427,7 @@ pub words_spelled : (reading : Reading) (names : List (List ℕ)) (kinds : List 
     → command_word parsed.command ∷ args_of names kinds parsed.command ≡ words
 words_spelled reading names kinds [] parsed e front = cc
 words_spelled reading names kinds (word ∷ words) parsed e front =
-    let name = from_bind (ok_or (command_called word) W.Command) _ parsed e in
+    let name = from_bind (ok_or (name_called word) W.Command) _ parsed e in
     let spelled = meaning_of_command-spelled reading names kinds name.0 words parsed name.2 front in
-    let first = ap name_word spelled.name_is ∙ command_called-word word name.0 (from_some (command_called word) W.Command name.0 name.1) in
+    let first = ap word_of spelled.name_is ∙ name_called-word word name.0 (from_some (name_called word) W.Command name.0 name.1) in
     (λ i. first i ∷ spelled.args i)

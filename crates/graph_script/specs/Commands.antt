@@ -7,7 +7,7 @@ use Rattle.graph_script.specs.declared.name.Name.TheVariants as N
 use Rattle.graph_script.specs.declared.reading.ParsedLine.{ParsedLine}
 use Rattle.graph_script.specs.declared.reading.Reading.{Reading}
 use Rattle.graph_script.specs.Checked.{Checked, ◌>>=◌}
-use Rattle.graph_script.specs.CommandNames.{command_called}
+use Rattle.graph_script.specs.CommandWords.{name_called}
 use Rattle.graph_script.specs.FileNodes as files
 use Rattle.graph_script.specs.NodeCommands as nodes
 use Rattle.graph_script.specs.PortCommands as ports
@@ -41,5 +41,5 @@ meaning_of_command reading N.Drain words = graph.drain_of reading words
 abbrev pub meaning_of_words : Reading → List (List ℕ) → Checked ParsedLine
 meaning_of_words reading [] = Err W.Command
 meaning_of_words reading (name ∷ words) = do
-  command ← ok_or (command_called name) W.Command
+  command ← ok_or (name_called name) W.Command
   meaning_of_command reading command words

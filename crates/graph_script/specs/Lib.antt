@@ -1,6 +1,5 @@
 pub mod Arguments
 pub mod Checked
-pub mod CommandNames
 pub mod CommandWords
 pub mod Commands
 pub mod Earlier
@@ -19,4 +18,5 @@ pub mod PortCommands
 pub mod Printable
 pub mod Printing
 pub mod Ranges
+pub mod Table
 pub mod working

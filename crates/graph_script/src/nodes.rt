@@ -5,7 +5,7 @@ ghost use Rattle.graph_script.specs.Nodes as nodes;
 ghost use Rattle.graph_script.specs.working.Sound.{IsSound};
 
 use crate::fault::ScriptWhy;
-use crate::names::{is_node_name, place_of};
+use crate::node_names::{is_node_name, place_of};
 use crate::ports::{input_called, output_called, port_called};
 use crate::reading::Reading;
 use pw_graph::{Kind, PortId};

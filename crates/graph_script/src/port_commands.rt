@@ -8,7 +8,7 @@ ghost use Rattle.graph_script.specs.working.Sound.{IsSound, IsConsistent};
 use crate::arguments::{three_words, two_words};
 use crate::command::Command;
 use crate::fault::ScriptWhy;
-use crate::names::file_word;
+use crate::node_names::file_word;
 use crate::nodes::{input_at, output_at, port_at};
 use crate::numbers::number_in;
 use crate::progress::{Progress, is_linked};

@@ -9,8 +9,8 @@ ghost use Rattle.graph_script.specs.Ranges.{HasNodes};
 use crate::command::Command;
 use crate::command_text::put_args;
 use crate::kinds::kind_made;
+use crate::name::{name_of, word_of};
 use crate::script::{Line, Script};
-use crate::text::{name_of, name_word};
 use pw_graph::Kind;
 use pw_lists::{Items, Memory, Text};
 use std::alloc::Global;
@@ -49,7 +49,7 @@ fn put_line(
     requires ports { HasPorts kinds.now command.now }
     ensures { OnOk result (text.new ≡ text.old ++ line_text names.now kinds.now command.now) }
 {
-    text.extend(name_word(name_of(command)))?;
+    text.extend(word_of(name_of(command)))?;
     put_args(text, names, kinds, command)
 }
 

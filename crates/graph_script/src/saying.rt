@@ -9,7 +9,7 @@ use crate::file_nodes::{sink, source};
 use crate::graph_commands::{asynchronous, cycles, data_loop, drain, driver, off, on, quantum};
 use crate::lexing::next_word;
 use crate::map_command::map;
-use crate::name::{Name, command_called};
+use crate::name::{Name, name_called};
 use crate::new_nodes::parsed_of;
 use crate::node_commands::{delay, gain, meter, mix2, split, square};
 use crate::port_commands::{buffers, link, offer, unlink};
@@ -68,7 +68,7 @@ pub(crate) fn parsed_by(
 {
     match next_word(line) {
         None => Ok(Err(ScriptWhy::Command)),
-        Some((word, args)) => match command_called(word) {
+        Some((word, args)) => match name_called(word) {
             None => Ok(Err(ScriptWhy::Command)),
             Some(name) => named(alloc, progress, name, args),
         },
