@@ -94,8 +94,8 @@ fn of_blocks(
     Ok(row)
 }
 
-/// The rows of a board, by the pools of its shape. Cost: a look at each node for each node, link and
-/// pool.
+/// The rows of a board, by the pools of its shape. Cost: a look at each node for each node, link
+/// and pool.
 pub(crate) fn owner_rows(
     alloc: Global,
     board_shape: &BoardShape,

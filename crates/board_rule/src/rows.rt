@@ -259,8 +259,8 @@ fn pools_rows(
     Ok(rows)
 }
 
-/// The rows of a shape with these pools whose board has `words` words. Cost: a look at each node for
-/// each target, each link and each number below 64, and at each pool for each link.
+/// The rows of a shape with these pools whose board has `words` words. Cost: a look at each node
+/// for each target, each link and each number below 64, and at each pool for each link.
 pub(crate) fn rows_of(
     alloc: Global,
     shape: &Shape,

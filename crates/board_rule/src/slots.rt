@@ -26,8 +26,8 @@ pub struct Slots {
     pub(crate) pools: Vec<usize>,
 }
 
-/// The slots of all entries, whose owners are at most `most`. Cost: a look at each entry, and a count
-/// for each owner.
+/// The slots of all entries, whose owners are at most `most`. Cost: a look at each entry, and a
+/// count for each owner.
 pub(crate) fn slots_of(alloc: Global, owners: &[u32], most: u32) -> Result<Vec<usize>, AllocError>
     requires { All (λ o. o ≤ most) owners.now }
     ensures { IfOk result (λ slots. AreSlots owners.now slots.items) }
