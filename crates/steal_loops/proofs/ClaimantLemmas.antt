@@ -1,6 +1,6 @@
 -- What a thread takes cells with, from call to call.
 use Rattle.std.proofs.Common.{◌≡◌, ◌≢◌, ℕ, ◌<◌, Bool, true, false, true≢false, List, [], ◌∷◌, length, get_or, set, sym, ap, ◌∙◌, subst, arith, ⊎_elim}
-use Rattle.std.proofs.Common.{length-set, get_or-set_other, slice_get, Some}
+use Rattle.std.proofs.Common.{length-set, get_or-set_other, slice_get, Option, Some}
 use Rattle.std.specs.Prelude.{All}
 use Rattle.std.proofs.lemmas.Bool.{cases_eq}
 use Rattle.ready_queues.specs.AnsweredWith.{IsWayOf}
@@ -8,13 +8,14 @@ use Rattle.data_loop.specs.declared.loop_state.LoopState.{LoopState}
 use Rattle.data_loop.specs.Loops.{plan_of}
 use Rattle.steal_shelf.specs.declared.shelf.ShelfSeat.{ShelfSeat}
 use Rattle.steal_shelf.specs.declared.token.Token.{Token}
-use Rattle.steal_shelf.specs.Fetching.{HasFoundOut, HasPutBack, AreOthersLeft}
-use Rattle.steal_shelf.specs.Seats.{cells_of, IsSeatOf, IsAllowed, turn_at, LacksCell}
+use Rattle.steal_shelf.specs.Fetching.{HasFetched, HasFoundOut, HasPutBack, AreOthersLeft}
+use Rattle.steal_shelf.specs.Seats.{cells_of, IsSeatOf, IsAllowed, turn_at, left_at, LacksCell}
 use Rattle.steal_shelf.proofs.CellLemmas.{finished}
 use Rattle.steal_loops.specs.declared.shared.Shared.{Shared}
 use Rattle.steal_loops.specs.declared.claimant.Claimant.{Claimant}
 use Rattle.steal_loops.specs.working.Cells.{AreCells, IsFinished, HasFinished, HaveFinished}
 use Rattle.steal_loops.specs.working.Claimants.{IsClaimant}
+use Rattle.steal_loops.specs.working.Visits.{HasHadOnce}
 
 -- with another way
 pub again : (shared : Shared) (t u : Claimant) → IsClaimant shared t → u.seat ≡ t.seat → IsWayOf shared.ways u.way
@@ -27,6 +28,10 @@ again shared t u h seat answered same = record {
   ended = λ i d low up. subst (λ (x : ShelfSeat). HasFinished shared x i) (sym seat)
       (h.ended i d low (ap (λ (l : List Bool). get_or l i d) (sym same) ∙ up));
 }
+
+-- the last state in which the seat put a cell back
+abbrev last_left : ShelfSeat → ℕ → Token → Option LoopState
+last_left seat k d = slice_get (left_at seat k d) 0
 
 -- after a try of the cell i that found it out
 module _ (shared : Shared) (t u : Claimant) (i : ℕ) (h : IsClaimant shared t) (out : HasFoundOut i t.seat u.seat)
@@ -41,9 +46,9 @@ module _ (shared : Shared) (t u : Claimant) (i : ℕ) (h : IsClaimant shared t) 
   out_finished j f = (
     f.0,
     λ d. ⊎_elim
-        (λ (here : j ≡ i). subst (λ k. (get_or u.seat.tokens.items k d).seat.me.0.left ≡ Some f.0) (sym here)
-        (out.left d ∙ ap (λ k. (get_or t.seat.tokens.items k d).seat.me.0.left) (sym here) ∙ f.1 d))
-        (λ (other : j ≢ i). ap (λ (x : Token). x.seat.me.0.left) (others j d other) ∙ f.1 d)
+        (λ (here : j ≡ i). subst (λ k. last_left u.seat k d ≡ Some f.0) (sym here)
+        (ap (λ (l : List LoopState). slice_get l 0) (out.left d) ∙ ap (λ k. last_left t.seat k d) (sym here) ∙ f.1 d))
+        (λ (other : j ≢ i). ap (λ (x : Token). slice_get x.seat.me.0.left 0) (others j d other) ∙ f.1 d)
         (cases_eq j i),
     f.2,
   )
@@ -56,6 +61,17 @@ module _ (shared : Shared) (t u : Claimant) (i : ℕ) (h : IsClaimant shared t) 
     flags = ap (λ (l : List Bool). length l) same ∙ h.flags;
     ended = λ j d low up. out_finished j (h.ended j d low (ap (λ (l : List Bool). get_or l j d) (sym same) ∙ up));
   }
+
+-- a seat that fetched the cell i and put it back
+pub had_once : (i : ℕ) (found back : LoopState) (old mid new : ShelfSeat) → HasFetched i found old mid → AreOthersLeft i old mid
+    → HasPutBack i back mid new → AreOthersLeft i mid new → HasHadOnce i found back old new
+had_once i found back old mid new took others_took put others_put = record {
+  took = λ d. put.took d ∙ took.took d;
+  left = λ d. put.left d ∙ ap (λ (l : List LoopState). back ∷ l) (took.left d);
+  tries = λ d. put.tries d ∙ took.tries d;
+  lacks = put.lacks;
+  others = λ j d other. others_put j d other ∙ others_took j d other;
+}
 
 -- after a visit that fetched the cell i and put it back in the state s
 module _ (shared : Shared) (t u : Claimant) (i : ℕ) (s : LoopState) (mid : ShelfSeat) (h : IsClaimant shared t)
@@ -70,7 +86,7 @@ module _ (shared : Shared) (t u : Claimant) (i : ℕ) (s : LoopState) (mid : She
       (cases_eq j i)
 
   other_finished : (j : ℕ) → j ≢ i → HasFinished shared t.seat j → HasFinished shared u.seat j
-  other_finished j other f = (f.0, λ d. ap (λ (x : Token). x.seat.me.0.left) (other_token j d other) ∙ f.1 d, f.2)
+  other_finished j other f = (f.0, λ d. ap (λ (x : Token). slice_get x.seat.me.0.left 0) (other_token j d other) ∙ f.1 d, f.2)
 
   -- its flag was down, and is
   pub stepped : IsSeatOf shared.shelf u.seat → IsWayOf shared.ways u.way → u.ended.items ≡ t.ended.items
@@ -95,7 +111,7 @@ module _ (shared : Shared) (t u : Claimant) (i : ℕ) (s : LoopState) (mid : She
     answered = answered;
     flags = ap (λ (l : List Bool). length l) up_now ∙ (length-set t.ended.items i true ∙ h.flags);
     ended = λ j d low up. ⊎_elim
-        (λ (here : j ≡ i). subst (HasFinished shared u.seat) (sym here) (s, put.left, end))
+        (λ (here : j ≡ i). subst (HasFinished shared u.seat) (sym here) (s, λ d. ap (λ (l : List LoopState). slice_get l 0) (put.left d), end))
         (λ (other : j ≢ i). other_finished j other (h.ended j d low
         (sym (ap (λ (l : List Bool). get_or l j d) up_now ∙ get_or-set_other t.ended.items i j true d other) ∙ up)))
         (cases_eq j i);

@@ -115,7 +115,7 @@ module _ (shelf : Shelf) (old new : ShelfSeat) (i : ℕ) (x y : Token) (h : IsSe
   fetched s lacks takes = record {
     lacked = λ d. sym (was_at (λ (v : CellView). v.has) d) ∙ lacks;
     has = λ d. now_at (λ (v : CellView). v.has) d ∙ ap (λ (v : CellView). v.has) takes;
-    took = λ d. now_at (λ (v : CellView). v.took) d ∙ ap (λ (v : CellView). v.took) takes;
+    took = λ d. now_at (λ (v : CellView). v.took) d ∙ ap (λ (v : CellView). v.took) takes ∙ was_at (λ (v : CellView). s ∷ v.took) d;
     left = λ d. now_at (λ (v : CellView). v.left) d ∙ ap (λ (v : CellView). v.left) takes ∙ was_at (λ (v : CellView). v.left) d;
     tries = λ d. now_at (λ (v : CellView). v.tries) d ∙ ap (λ (v : CellView). v.tries) takes ∙ was_at (λ (v : CellView). v.tries) d;
   }
@@ -131,7 +131,7 @@ module _ (shelf : Shelf) (old new : ShelfSeat) (i : ℕ) (x y : Token) (h : IsSe
   pub put_again : (s : LoopState) → y.seat.me.0 ≡ rested (Some s) x.seat.me.0 → HasPutBack i s old new
   put_again s rests = record {
     lacks = λ d. now_at (λ (v : CellView). v.has) d ∙ ap (λ (v : CellView). v.has) rests;
-    left = λ d. now_at (λ (v : CellView). v.left) d ∙ ap (λ (v : CellView). v.left) rests;
+    left = λ d. now_at (λ (v : CellView). v.left) d ∙ ap (λ (v : CellView). v.left) rests ∙ was_at (λ (v : CellView). s ∷ v.left) d;
     took = λ d. now_at (λ (v : CellView). v.took) d ∙ ap (λ (v : CellView). v.took) rests ∙ was_at (λ (v : CellView). v.took) d;
     tries = λ d. now_at (λ (v : CellView). v.tries) d ∙ ap (λ (v : CellView). v.tries) rests ∙ was_at (λ (v : CellView). v.tries) d;
   }

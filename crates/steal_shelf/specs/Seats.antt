@@ -1,6 +1,6 @@
 -- A seat of the shelf: what one thread has of each cell.
 -- Source: this project's own.
-use Rattle.std.specs.Prelude.{◌≡◌, ◌⊎◌, ℕ, ◌<◌, Bool, true, false, List, [], ◌∷◌, Option, None, Some, length, slice_get, slice_index_or}
+use Rattle.std.specs.Prelude.{◌≡◌, ◌⊎◌, ℕ, ◌<◌, Bool, true, false, List, [], ◌∷◌, None, Some, length, slice_get, slice_index_or}
 use Rattle.atomic_table.specs.Seated.{TableId}
 use Rattle.data_loop.specs.declared.loop_state.LoopState.{LoopState}
 use Rattle.steal_shelf.specs.declared.shelf.Shelf.{Shelf}
@@ -35,15 +35,15 @@ pub record IsSeatOf (shelf : Shelf) (seat : ShelfSeat) : Type 0 where
   pub tokens : (i : ℕ) (d : Token) → i < length (cells_of shelf)
       → IsTokenOf shelf i (slice_index_or seat.tokens.items i d)
 
--- whether it has the cell; in which state it fetched it the last time, and in which it put it back,
--- if it did; and how many of its tries found the cell out
+-- whether it has the cell; in which states it fetched it, and in which it put it back, the last
+-- first; and how many of its tries found the cell out
 abbrev pub turn_at : ShelfSeat → ℕ → Token → Bool
 turn_at seat i d = (slice_index_or seat.tokens.items i d).seat.me.0.has
 
-abbrev pub took_at : ShelfSeat → ℕ → Token → Option LoopState
+abbrev pub took_at : ShelfSeat → ℕ → Token → List LoopState
 took_at seat i d = (slice_index_or seat.tokens.items i d).seat.me.0.took
 
-abbrev pub left_at : ShelfSeat → ℕ → Token → Option LoopState
+abbrev pub left_at : ShelfSeat → ℕ → Token → List LoopState
 left_at seat i d = (slice_index_or seat.tokens.items i d).seat.me.0.left
 
 abbrev pub tries_at : ShelfSeat → ℕ → Token → ℕ
@@ -59,5 +59,5 @@ LacksCell seat i = (d : Token) → turn_at seat i d ≡ false
 pub record IsNewSeat (shelf : Shelf) (seat : ShelfSeat) : Type 0 where
   pub lacks : (i : ℕ) → i < length (cells_of shelf) → LacksCell seat i
   pub bare : (i : ℕ) (d : Token) → i < length (cells_of shelf)
-      → (took_at seat i d ≡ None) × (left_at seat i d ≡ None)
+      → (took_at seat i d ≡ []) × (left_at seat i d ≡ [])
   pub tries : (i : ℕ) (d : Token) → i < length (cells_of shelf) → tries_at seat i d ≡ 0

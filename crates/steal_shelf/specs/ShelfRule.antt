@@ -1,6 +1,6 @@
 -- The rule of the shelf: a cell is at home in its slot, or just one seat has its turn.
 -- Source: this project's own.
-use Rattle.std.specs.Prelude.{◌≡◌, ◌⊎◌, ℕ, true, false, List, Option, None, Some, length, slice_get, slice_index}
+use Rattle.std.specs.Prelude.{◌≡◌, ◌⊎◌, ℕ, true, false, List, [], Option, Some, length, slice_get, slice_index}
 use mathlib.Core.Option.{some, none}
 use lib.ListN.{get_elem?}
 use Rattle.atomic_table.specs.Table.{State}
@@ -48,7 +48,7 @@ root_view made = record {
   cell = length made;
   has = false;
   tries = 0;
-  took = None;
-  left = None;
+  took = [];
+  left = [];
   made = made;
 }

@@ -9,7 +9,7 @@ use data_loop::LoopState;
 
 impl Shelf {
     /// One try of a cell: the loop of its node, where it is on its way through the boards; the seat
-    /// then knows that it took it so. None exactly where the one exchange of this call found the
+    /// then knows that it took it so, one time more. None exactly where the one exchange of this call found the
     /// cell out, also where it is with this seat; then the seat knows one more try of it. Takes no
     /// memory, does not wait.
     /// Condition: the seat is this shelf's, and there is such a cell.
@@ -25,8 +25,8 @@ impl Shelf {
         fetch_token(self, &mut seat.tokens[cell as usize])
     }
 
-    /// Puts a cell back that the seat has; the seat then knows that it left it so. Takes no memory,
-    /// does not wait.
+    /// Puts a cell back that the seat has; the seat then knows that it left it so, one time more.
+    /// Takes no memory, does not wait.
     /// Condition: the seat is this shelf's and has the cell, and the state is one that the cell may
     /// have on its way.
     pub fn put_back(&self, seat: &mut ShelfSeat, cell: u32, state: LoopState)

@@ -1,6 +1,6 @@
 -- What a seat learns by a step of the shelf.
 -- Source: this project's own.
-use Rattle.std.specs.Prelude.{◌≡◌, ℕ, zero, suc, ◌+◌, true, false, List, [], ◌∷◌, Option, None, Some, slice_get}
+use Rattle.std.specs.Prelude.{◌≡◌, ℕ, zero, suc, ◌+◌, true, false, List, [], ◌∷◌, ◌++◌, Option, None, Some, option_to_list, slice_get}
 use Rattle.atomic_table.specs.Table.{Me, rest}
 use Rattle.data_loop.specs.declared.loop_state.LoopState.{LoopState}
 use Rattle.steal_shelf.specs.declared.view.CellView.{CellView}
@@ -24,14 +24,14 @@ abbrev pub tried : CellView → CellView
 tried v = record v { tries = v.tries + 1 }
 
 abbrev pub taken : LoopState → CellView → CellView
-taken s v = record v { has = true; took = Some s }
+taken s v = record v { has = true; took = s ∷ v.took }
 
 abbrev pub rested : Option LoopState → CellView → CellView
-rested s v = record v { has = false; left = s }
+rested s v = record v { has = false; left = option_to_list s ++ v.left }
 
 -- the view of a new seat of the cell n
 abbrev pub dealt : ℕ → CellView → CellView
-dealt n v = record v { cell = n; has = false; tries = 0; took = None; left = None }
+dealt n v = record v { cell = n; has = false; tries = 0; took = []; left = [] }
 
 -- A TRY of the cell i found 0, and then the seat has its turn and the state that was in the slot,
 -- which the rule allows; or it found 1

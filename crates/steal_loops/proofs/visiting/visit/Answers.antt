@@ -1,18 +1,19 @@
-use Rattle.std.proofs.Common.{ℕ, Bool, true, refl, arith, ◌∙◌, subst, get_or-set_same}
+use Rattle.std.proofs.Common.{ℕ, Bool, true, refl, sym, arith, ◌∙◌, inl, inr, subst, get_or-set_same}
+use Rattle.data_loop.specs.declared.loop_state.LoopState.{LoopState}
+use Rattle.steal_shelf.specs.Fetching.{HasFetched}
 use Rattle.steal_loops.specs.working.NodeSets.{IsKept}
-use Rattle.steal_loops.proofs.ClaimantLemmas.{tried, stepped, flagged, at_end}
+use Rattle.steal_loops.proofs.ClaimantLemmas.{tried, stepped, flagged, had_once, at_end}
 use Rattle.steal_loops.proofs.visiting.visit.Goals as goal
 
 pub has_ended-requires : goal.has_ended-requires
 has_ended-requires g c = let n = c.requires.claimant.flags in let low = c.requires.cell in omega (arith, n, low)
 
 pub returns-then-has_ended-clause-visited : goal.returns-then-has_ended-clause-visited
-returns-then-has_ended-clause-visited g c = let h = c.requires.claimant in let up = λ (d : Bool). c.has_ended.ensures d ∙ c.if-has_ended.true in (
-  h.ended c.args.cell true c.requires.cell (up true),
-  h.rests c.args.cell c.requires.cell,
-  up,
-  refl,
-)
+returns-then-has_ended-clause-visited g c = let h = c.requires.claimant in let up = λ (d : Bool). c.has_ended.ensures d ∙ c.if-has_ended.true in
+    (inl (h.ended c.args.cell true c.requires.cell (up true), refl), up)
+
+pub returns-in_default-clause-visited : goal.returns-in_default-clause-visited
+returns-in_default-clause-visited g c = (c.in_default.ensures.none, c.fetch.ensures.others, refl)
 
 pub returns-in_default-clause-claimant : goal.returns-in_default-clause-claimant
 returns-in_default-clause-claimant g c = let h = c.requires.claimant in
@@ -27,11 +28,10 @@ pub returns-in-Some-stepped-clause-visited : goal.returns-in-Some-stepped-clause
 returns-in-Some-stepped-clause-visited g c = record {
   found = c.in-Some.state;
   back = c.advance_unless_ended-stepped.new.state;
-  took = λ d. c.put_back.ensures.back.took d ∙ c.in-Some.ensures.some.0.took d;
-  left = c.put_back.ensures.back.left;
+  once = had_once c.args.cell c.in-Some.state c.advance_unless_ended-stepped.new.state c.args.claimant.now.seat c.fetch.new.seat c.put_back.new.seat
+      c.in-Some.ensures.some.0 c.fetch.ensures.others c.put_back.ensures.back c.put_back.ensures.others;
   allowed = c.in-Some.ensures.some.1;
   stepped = c.in-Some-stepped.ensures.stepped;
-  lacks = c.put_back.ensures.back.lacks;
   made = c.in-Some-stepped.ensures.made;
   others = c.split-kept.result.1;
   kept = subst (λ (n : ℕ). IsKept c.args.shared.now.signs.celled c.split-kept.result.0 n c.split-kept.result.1) c.woke-woke.ensures c.split-kept.ensures;
@@ -46,12 +46,13 @@ returns-in-None-clause-claimant g c = let h = c.requires.claimant in let s = c.a
 
 pub returns-in-None-clause-visited : goal.returns-in-None-clause-visited
 returns-in-None-clause-visited g c = let s = c.advance_unless_ended-stepped.new.state in let n = c.requires.claimant.flags in let low = c.requires.cell in (
-  (
+  inr (
     s,
-    c.put_back.ensures.back.left,
+    had_once c.args.cell s s c.args.claimant.now.seat c.fetch.new.seat c.put_back.new.seat
+        (subst (λ (x : LoopState). HasFetched c.args.cell x c.args.claimant.now.seat c.fetch.new.seat) (sym c.in-None.ensures.ended) c.in-Some.ensures.some.0)
+        c.fetch.ensures.others c.put_back.ensures.back c.put_back.ensures.others,
     at_end c.args.shared.now c.args.cell s c.requires.cells c.advance_unless_ended-stepped.ensures.allowed c.in-None.ensures.end,
+    refl,
   ),
-  c.put_back.ensures.back.lacks,
   λ d. get_or-set_same c.args.claimant.now.ended.items c.args.cell true d (omega (arith, n, low)),
-  refl,
 )
