@@ -5,6 +5,7 @@ ghost use Rattle.node_progress.specs.declared.run_model.RunModel.{RunModel};
 ghost use Rattle.data_loop.specs.LoopWay.{IsDriverWay};
 ghost use Rattle.driver_cycle.specs.Leading.{IsLeading, IsBetween, IsWaiting, IsDriving, HasEndedAll};
 ghost use Rattle.driver_cycle.specs.Rounds.{BeginsNext, HasLooked};
+ghost use Rattle.driver_cycle.specs.Asking.{IsAskedBy};
 ghost use Rattle.driver_cycle.specs.Epochs.{IsThread, HasGoneOn, HasGoneRound};
 ghost use Rattle.driver_cycle.specs.Waking.{SendsBegun};
 ghost use Rattle.graph_run.specs.Leads.{HasLedAll};
@@ -40,6 +41,7 @@ fn go_round<R: Wait, G: Gate, K: Ticker>(
         seat.new own.new [] (K.ticks ticker.new) }
     ensures round { HasGoneRound result (layout at.now.board.now) seat.old.knows checked.new
         seat.new.knows }
+    ensures asked { IsAskedBy K.answers result checked.old ticker.old ticker.new }
     ensures scan { IsScan at.now.shared.now scan.new }
 {
     let ways = &at.shared.ways;
