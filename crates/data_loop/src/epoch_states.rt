@@ -28,6 +28,7 @@ fn restarts_of(
         (λ restarts. restarts ≡ map (restart_of plan.now epoch) nodes.now) }
 {
     let mut restarts = Items::new(alloc);
+    restarts.reserve(nodes.len())?;
     for node in nodes {
         restarts.push(restart_in(plan, epoch as u32, *node))?;
     }
@@ -81,6 +82,7 @@ pub(crate) fn epoch_states_of(
     ensures { IfOk result (AreFirstEpochStates plan.now nodes.now seats) }
 {
     let mut epoch_states = Items::new(alloc);
+    epoch_states.reserve(seats.len())?;
     let mut epoch = 0;
     for seat in seats.into_vec() {
         epoch_states.push(epoch_state_of(alloc, plan, nodes, epoch, pools, seat)?)?;

@@ -53,6 +53,7 @@ fn places_of(alloc: Global, nodes: &[u32], pools: &[PoolShape]) -> Result<Items<
 {
     let count = count_own(nodes, pools);
     let mut places = Items::new(alloc);
+    places.reserve(pools.len())?;
     let mut before = 0;
     for pool in pools {
         let own = is_among(nodes, pool.port.node);
@@ -94,6 +95,7 @@ fn free_of(alloc: Global, shape: &Shape, pools: &[PoolShape]) -> Result<Items<Po
     ensures { IfOk result (λ free. free ≡ map (free_at_start shape.now) pools.now) }
 {
     let mut free = Items::new(alloc);
+    free.reserve(pools.len())?;
     for pool in pools {
         free.push(free_at_start(alloc, shape, pool)?)?;
     }

@@ -16,6 +16,7 @@ pub fn pools_in(alloc: Global, plan: &Plan) -> Result<Items<Items<PoolShape>>, M
     ensures { IfOk result (λ pools. pools ≡ pools_in plan.now) }
 {
     let mut pools = Items::new(alloc);
+    pools.reserve(plan.epochs.len())?;
     for epoch in plan.epochs.as_slice() {
         pools.push(pools_of(alloc, &epoch.shape)?)?;
     }
