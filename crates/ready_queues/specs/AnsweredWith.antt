@@ -1,5 +1,5 @@
--- What it is for a way to be answered with some ways: its ends are to their loops, in the order of the
--- loops, it parks on the parker of its own thread, and its own seat is that of its loop's start word.
+-- What it is for a way to be answered with some ways: its ends are to their loops, in the order of
+-- the loops, it parks on the parker of its own thread, and has the own seat of its loop's start.
 -- Source: this project's own.
 use Rattle.std.specs.Prelude.{◌≡◌, true, List, [], ◌∷◌, ◌++◌, map, Some, slice_get}
 use Rattle.atomic_table.specs.Seated.{TableId}

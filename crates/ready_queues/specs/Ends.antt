@@ -1,5 +1,5 @@
--- The ends of a way: its pass to the queue of each loop, its pass to that loop's parker, and its seat
--- of that loop's start word.
+-- The ends of a way: its pass to the queue of each loop, its pass to that loop's parker, and its
+-- seat of that loop's start word.
 -- Source: this project's own.
 use Rattle.std.specs.Prelude.{◌≡◌, ℕ, List, length, Some, slice_get}
 use Rattle.std.specs.List.{sum_by}

@@ -20,9 +20,9 @@ abbrev pub HasForDriver : List ℕ → ℕ → ℕ → List End → List End →
 HasForDriver owner loops woke old new = (node : ℕ) × (bit_at woke node ≡ 1)
     × IsForDriver owner loops old new node
 
--- how often the thread of a number unparks the driver's for a set, where its ends were `old` and are
--- `new`: at most once, never itself and never for nothing; always another for a node whose loop was
--- not seen to run, or that no loop has; and only for one that may be the driver's to run
+-- how often the thread of a number unparks the driver's for a set, where its ends were `old` and
+-- are `new`: at most once, never itself and never for nothing; always another for a node whose loop
+-- was not seen to run, or that no loop has; and only for one that may be the driver's to run
 pub record IsUnparkedFor (owner : List ℕ) (loops woke number : ℕ) (old new : List End)
     (times : ℕ) : Type 0 where
   pub most : times ≤ 1

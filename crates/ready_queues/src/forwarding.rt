@@ -95,8 +95,8 @@ impl Ways {
     /// Each such loop is unparked but the way's own, whose thread makes this call. Afterwards the
     /// driver's thread is unparked, unless it makes this call, where the set has a node of the
     /// driver's own, or of a loop whose thread was not seen to have started: the driver's thread
-    /// may have adopted it. Else it is not: for the loop of the node a look was made that did not
-    /// find it started.
+    /// may have adopted it. Where all nodes are of loops that were found to have started, it is
+    /// not.
     ///
     /// May wait for another thread that is in the middle of a push or a pop. Takes no memory; cost:
     /// for each push a few atomic steps, and a call of the system for each thread that sleeps.

@@ -3,7 +3,8 @@ ghost use Rattle.std.specs.Prelude.{◌≡◌, ℕ, ◌<◌, cond, false, [], �
 ghost use Rattle.std.specs.Int.{bit_at};
 ghost use Rattle.crossbeam_queue.specs.Passes.{ruled_capacity};
 ghost use Rattle.ready_queues.specs.AnsweredWith.{IsWayOf};
-ghost use Rattle.ready_queues.specs.Ends.{AreEndsOf, IsEndOf, AreSameSights, hand_of, wakes_of, sight_of, received_by};
+ghost use Rattle.ready_queues.specs.Ends.{AreEndsOf, IsEndOf, AreSameSights};
+ghost use Rattle.ready_queues.specs.Ends.{hand_of, wakes_of, sight_of, received_by};
 ghost use Rattle.ready_queues.specs.QueueRule.{IsNodeOf};
 ghost use Rattle.ready_queues.specs.Sending.{AreSentNode, HaveSent, IsOfSomeLoop, IsRefused, pushed_on};
 ghost use Rattle.ready_queues.specs.ParkingRule.{given_on};
