@@ -1,8 +1,8 @@
 -- Lists of runs, each beside its part.
 use Rattle.std.proofs.Common.{◌≡◌, ℕ, zero, suc, ◌+◌, ◌<◌, ◌≤◌, Bool, true, ⊎_elim, List, [], ◌∷◌, ◌++◌, length, map, take, drop, get_or, refl, sym, ap, ◌∙◌, subst, arith, append-nil}
 use Rattle.std.specs.Prelude.{All}
-use Rattle.std.specs.List.{AllZip}
-use Rattle.std.proofs.lemmas.List.{append_assoc, length-map, drop_more}
+use Rattle.std.specs.List.{AllZip, range_with_len}
+use Rattle.std.proofs.lemmas.List.{append_assoc, length-map, map-append, drop_more}
 use Rattle.std.proofs.lemmas.Simd.{map-map}
 use Rattle.pw_graph.specs.declared.shape.Shape.{Shape}
 use Rattle.pw_graph.specs.declared.plan.Epoch.{Epoch}
@@ -12,6 +12,7 @@ use Rattle.wav_files.specs.declared.outcome.Kept.{Kept}
 use Rattle.wav_files.specs.declared.outcome.Outcome.{Outcome}
 use Rattle.wav_files.specs.WavWriting.{IsWave}
 use Rattle.cycle_model.specs.Rendering.{rendered_sinks, rendered_peaks}
+use Rattle.cycle_model.proofs.KeptLemmas.{range_split}
 use Rattle.board_rule.specs.declared.board_shape.BoardShape.{BoardShape}
 use Rattle.board_rule.specs.declared.closed.Closed.{Closed}
 use Rattle.crew_run.specs.Dealt.{AreDealt}
@@ -26,7 +27,7 @@ use Rattle.pw_graph.specs.declared.parts.Part.{Part}
 use Rattle.driver_groups.specs.declared.crew.PlacedRun.{PlacedRun}
 use Rattle.driver_groups.specs.GroupRun.{IsPartRun, AreRunsOf}
 use Rattle.driver_groups.specs.working.Crew.{runs_of, merged}
-use Rattle.driver_groups.specs.working.Groups.{ArePrepared, IsRunOfPart, IsEndedPart}
+use Rattle.driver_groups.specs.working.Groups.{IsRunOfPart, IsEndedPart}
 
 -- one more pair
 pub zip_push : {A B : Type 0} (R : A → B → Type 0) (xs : List A) (ys : List B) (x : A) (y : B) → AllZip R xs ys → R x y
@@ -109,8 +110,15 @@ ended_parts waves (p ∷ ps) (r ∷ rs) (e ∷ es) t u = (
   ended_parts waves ps rs es t.1 u.1,
 )
 
+-- one more place
+pub place_more : (rs : List PlacedRun) (r : PlacedRun) (k : ℕ) → map (λ (x : PlacedRun). x.place) rs ≡ range_with_len 1 k → r.place ≡ k + 1
+    → map (λ (x : PlacedRun). x.place) (rs ++ r ∷ []) ≡ range_with_len 1 (k + 1)
+place_more rs r k are is = map-append (λ (x : PlacedRun). x.place) rs (r ∷ []) ∙ ap (λ (l : List ℕ). l ++ r.place ∷ []) are
+    ∙ ap (λ n. range_with_len 1 k ++ n ∷ []) (is ∙ omega arith) ∙ sym (range_split 1 k 1)
+
 -- runs without their places
-pub unplaced : (waves : List WavIn) (ps : List Part) (rs : List PlacedRun) → ArePrepared waves ps rs → AllZip (IsRunOfPart waves) ps (runs_of rs)
+pub unplaced : (waves : List WavIn) (ps : List Part) (rs : List PlacedRun) → AllZip (λ (p : Part) (r : PlacedRun). IsRunOfPart waves p r.run) ps rs
+    → AllZip (IsRunOfPart waves) ps (runs_of rs)
 unplaced waves [] [] t = tt
 unplaced waves [] (r ∷ rs) t = absurd t
 unplaced waves (p ∷ ps) [] t = absurd t

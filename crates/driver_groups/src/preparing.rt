@@ -28,6 +28,7 @@ fn prepare_one(
 }
 
 /// The runs of all parts but the first, before the first cycle, with their places from 1 on.
+/// `Memory` also where a place does not fit.
 pub(crate) fn prepare_all(
     alloc: Global,
     parts: &[Part],
@@ -40,7 +41,7 @@ pub(crate) fn prepare_all(
     let mut runs = Items::new(alloc);
     let mut place = 0u32;
     for part in parts {
-        place = place.wrapping_add(1);
+        place = place.checked_add(1).ok_or(Memory)?;
         runs.push(prepare_one(alloc, part, waves, place)?)?;
     }
     Ok(runs)

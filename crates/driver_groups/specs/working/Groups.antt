@@ -1,7 +1,7 @@
 -- Runs of parts by threads of their own, before and after.
 -- Source: this project's own.
-use Rattle.std.specs.Prelude.{◌≡◌, ℕ, ◌≤◌, false, List, [], ◌∷◌, length, replicate, sum_by}
-use Rattle.std.specs.List.{AllZip}
+use Rattle.std.specs.Prelude.{◌≡◌, ℕ, ◌≤◌, false, List, [], ◌∷◌, length, map, replicate, sum_by}
+use Rattle.std.specs.List.{AllZip, range_with_len}
 use Rattle.pw_graph.specs.declared.parts.Part.{Part}
 use Rattle.pw_graph.specs.declared.plan.Plan.{Plan}
 use Rattle.wav_files.specs.declared.wav.WavIn.{WavIn}
@@ -19,9 +19,11 @@ use Rattle.driver_groups.specs.working.Crew.{CanLead}
 abbrev pub IsRunOfPart : List WavIn → Part → AloneRun → Type 0
 IsRunOfPart waves p r = IsAloneRun p.plan waves r
 
--- what may run, in the order of the parts
-abbrev pub ArePrepared : List WavIn → List Part → List PlacedRun → Type 0
-ArePrepared waves parts runs = AllZip (λ p r. IsRunOfPart waves p r.run) parts runs
+-- what may run, in the order of the parts, with their places, from 1 on
+pub record ArePrepared (waves : List WavIn) (parts : List Part) (runs : List PlacedRun)
+    : Type 0 where
+  pub each : AllZip (λ p r. IsRunOfPart waves p r.run) parts runs
+  pub places : map (λ r. r.place) runs ≡ range_with_len 1 (length parts)
 
 -- the run of a part's plan that has ended, by one thread and without a check
 pub record IsEndedPart (waves : List WavIn) (plan : Plan) (e : EndedRun) : Type 0 where

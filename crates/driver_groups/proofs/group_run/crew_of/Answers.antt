@@ -27,7 +27,7 @@ prepare_all-requires-clause-fit c = All-tail (λ (p : Part). WavesFit p.plan c.a
     (subst (All (λ (p : Part). WavesFit p.plan c.args.waves.now)) c.requires.parts c.requires.fit)
 
 pub returns : goal.returns
-returns c = let n = zip_long (λ (p : Part) (r : PlacedRun). IsRunOfPart c.args.waves.now p r.run) c.args.tail.now c.in_ok-others.others c.in_ok-others.ensures in
+returns c = let n = zip_long (λ (p : Part) (r : PlacedRun). IsRunOfPart c.args.waves.now p r.run) c.args.tail.now c.in_ok-others.others c.in_ok-others.ensures.each in
     let all = ap (λ (l : List Part). length l) c.requires.parts in
     let a = c.in_ok-waited.ensures.spare in let b = c.in_ok-ended.ensures.spare in record {
       head = c.args.head.now;

@@ -37,7 +37,7 @@ run-ended-requires-clause-leads g c κs within = c.requires.crew.lead
 pub run-ended-requires-clause-members : goal.run-ended-requires-clause-members
 run-ended-requires-clause-members g c κs within = let is = c.requires.crew in
     zip_all (λ (p : Part) (r : PlacedRun). IsRunOfPart c.args.waves.now p r.run) (λ (r : PlacedRun). CanRunAlone r.run)
-    (λ p r of. part_can_run c.args.waves.now p r.run of) is.tail c.args.crew.others is.others
+    (λ p r of. part_can_run c.args.waves.now p r.run of) is.tail c.args.crew.others is.others.each
 
 pub run-ended-requires-clause-adopt : goal.run-ended-requires-clause-adopt
 run-ended-requires-clause-adopt g c κs within = ap (λ l. length l) (c.as_slice-adopt.ensures ∙ c.requires.crew.named) ∙ length-replicate (length c.args.crew.others) false
@@ -49,4 +49,4 @@ pub finish_all-requires-clause-ended : goal.finish_all-requires-clause-ended
 finish_all-requires-clause-ended g c = let is = c.requires.crew in let waves = c.args.waves.now in
     subst (λ (l : List Part). AllZip (λ (p : Part) e. IsEndedPart waves p.plan e) l c.run-ended.result) (sym is.parts_are)
     (ended_parts waves (is.head ∷ is.tail) (c.args.crew.lead.first ∷ runs_of c.args.crew.others) c.run-ended.result
-    (is.first, unplaced waves is.tail c.args.crew.others is.others) c.run-ended.ensures)
+    (is.first, unplaced waves is.tail c.args.crew.others is.others.each) c.run-ended.ensures)
