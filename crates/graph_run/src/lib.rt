@@ -27,12 +27,12 @@ mod ways;
 
 pub use alone::{AloneRun, prepare_alone, run_alone};
 pub use assignment::loop_of;
-pub use boards::{Boards, boards_of};
+pub use boards::{Boards, boards_of, boards_with_pools};
 pub use closing::{ClosedBoards, close_all};
 pub use crew_run::{AnyStarts, Roster, Starts};
 pub use ended::{EndedRun, finish_run};
 pub use epochs::{Course, run_epochs};
-pub use loops::loops_of;
+pub use loops::{loops_of, loops_with_pools};
 pub use plan_run::{run_plan, run_plan_with};
 pub use rooms::{Rooms, rooms_for};
 pub use seating::{Seating, cell_seating, loop_seating, nodes_of_loop};

@@ -66,10 +66,36 @@ pub fn loops_of(
         (AreReadyOnBoards plan.now waves.now seating.now (map (λ row. row.list) seats.items)) }
 {
     let pools = pools_in(alloc, plan)?;
+    loops_with_pools(alloc, plan, waves, seating, pools.as_slice(), seats)
+}
+
+/// As `loops_of`, with the pools of each epoch.
+pub fn loops_with_pools(
+    alloc: Global,
+    plan: &Plan,
+    waves: &Items<WavIn>,
+    seating: &Seating,
+    pools: &[Items<PoolShape>],
+    seats: Vec<Room<LoopSeat>>,
+) -> Result<Items<LoopState>, Memory>
+    requires sound { IsSoundPlan plan.now }
+    requires fit { WavesFit plan.now waves.now }
+    requires seating { IsSeatingOf plan.now seating.now }
+    requires pools { pools.now ≡ pools_in plan.now }
+    requires count { length seats.items ≡ seating.now.loops + 1 }
+    requires seats { All (λ row. length row.list ≡ length plan.now.epochs) seats.items }
+    ensures between { IfOk result (All IsBetweenEpochs) }
+    ensures of { IfOk result
+        (AreLoopsOf plan.now waves.now (holder_of seating.now)
+        (map (λ row. row.list) seats.items)) }
+    // With the seats of the plan's boards, each loop is ready to run on them, and the driver's own
+    // has all drivers.
+    ensures ready { IfOk result
+        (AreReadyOnBoards plan.now waves.now seating.now (map (λ row. row.list) seats.items)) }
+{
     let mut states = Items::new(alloc);
     let mut which = 0;
     for row in seats {
-        let pools = pools.as_slice();
         let seats = row.into_items();
         states.push(loop_with(alloc, plan, waves, seating, which, pools, seats)?)?;
         which += 1;

@@ -3,7 +3,7 @@ use Rattle.std.specs.Prelude.{All}
 use Rattle.std.specs.List.{enumerate_from}
 use Rattle.graph_run.specs.Boards.{driver_of, all_seats}
 use Rattle.graph_run.specs.Seating.{epoch_board, holder_of}
-use Rattle.graph_run.proofs.boards.boards_of.Given as goal
+use Rattle.graph_run.proofs.boards.boards_with_pools.Given as goal
 
 abbrev pub invariant-loop-epoch : goal.invariant-loop-epoch
 invariant-loop-epoch l = record {

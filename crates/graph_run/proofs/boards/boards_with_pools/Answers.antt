@@ -9,7 +9,7 @@ use Rattle.graph_run.specs.Boards.{driver_of, all_seats}
 use Rattle.graph_run.specs.Seating.{epoch_board, holder_of}
 use Rattle.graph_run.proofs.RowLemmas.{drivers_more, seats_more, same_count, dealt_spare, shapes_more}
 use Rattle.graph_run.proofs.ReadyLemmas.{first_leads, as_many, rows_count, rows_long}
-use Rattle.graph_run.proofs.boards.boards_of.Goals as goal
+use Rattle.graph_run.proofs.boards.boards_with_pools.Goals as goal
 
 pub deal-requires-clause-count : goal.deal-requires-clause-count
 deal-requires-clause-count c = same_count c.args.plan.now c.args.waves.now c.args.seating.now.loops c.loop-epoch.boards c.in_ok-board.board c.loop-epoch.epoch

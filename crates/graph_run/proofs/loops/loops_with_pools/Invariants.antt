@@ -3,7 +3,7 @@ use Rattle.std.specs.Prelude.{All}
 use Rattle.data_loop.specs.Loops.{IsBetweenEpochs}
 use Rattle.graph_run.specs.Loops.{AreLoopsOf}
 use Rattle.graph_run.specs.Seating.{holder_of}
-use Rattle.graph_run.proofs.loops.loops_of.Given as goal
+use Rattle.graph_run.proofs.loops.loops_with_pools.Given as goal
 
 abbrev pub invariant-loop-row : goal.invariant-loop-row
 invariant-loop-row l = record {

@@ -11,7 +11,7 @@ use Rattle.graph_run.specs.Loops.{AreLoopsOf}
 use Rattle.graph_run.specs.Seating.{nodes_of_loop, holder_of}
 use Rattle.graph_run.proofs.LoopLemmas.{one_loop}
 use Rattle.graph_run.proofs.ReadyLemmas.{all_ready}
-use Rattle.graph_run.proofs.loops.loops_of.Goals as goal
+use Rattle.graph_run.proofs.loops.loops_with_pools.Goals as goal
 
 pub loop-row-preserved : goal.loop-row-preserved
 loop-row-preserved c = let v = c.loop-row.invariant in let steps = c.in-Some.ensures.steps.0 in
