@@ -1,11 +1,12 @@
 -- A loop on its way through the boards of a run.
-use Rattle.std.proofs.Common.{◌≡◌, ◌≢◌, ℕ, zero, suc, ◌+◌, ◌<◌, ◌≤◌, List, [], ◌∷◌, length, get_or, refl, sym, ap, ◌∙◌, subst, arith, ⊎_elim, inl}
+use Rattle.std.proofs.Common.{◌≡◌, ◌≢◌, ℕ, zero, suc, ◌+◌, ◌<◌, ◌≤◌, List, [], ◌∷◌, length, get_or, refl, sym, ap, ◌∙◌, subst, arith, ⊎_elim, inl, inr}
 use Rattle.std.proofs.Common.{Some, slice_get}
 use Rattle.std.specs.Prelude.{Contains}
 use Rattle.std.proofs.lemmas.Bool.{cases_lt}
 use Rattle.std.proofs.lemmas.List.{nil_from_length, get_or_default}
 use Rattle.std.proofs.lemmas.Option.{slice_get_within}
 use Rattle.atomic_table.specs.Seated.{TableId}
+use Rattle.atomic_table.specs.declared.shared.Seat.{Seat}
 use Rattle.pw_graph.specs.declared.plan.Epoch.{Epoch}
 use Rattle.pw_graph.specs.declared.shape.Shape.{Shape}
 use Rattle.pw_graph.specs.PlanFresh.{IsEpoch}
@@ -14,7 +15,9 @@ use Rattle.board_rule.specs.Layout.{BoardLayout}
 use Rattle.board_rule.specs.OnBoard.{layout, table_of}
 use Rattle.ready_queues.specs.declared.way.Way.{Way}
 use Rattle.ready_queues.specs.declared.ways.Ways.{Ways}
+use Rattle.ready_queues.specs.declared.start_view.StartView.{StartView}
 use Rattle.ready_queues.specs.AnsweredWith.{IsWayOf}
+use Rattle.ready_queues.specs.Starting.{IsStarted}
 use Rattle.node_progress.specs.declared.run_model.RunModel.{RunModel}
 use Rattle.data_loop.specs.declared.loop_state.LoopState.{LoopState}
 use Rattle.data_loop.specs.declared.member.Member.{Member}
@@ -24,9 +27,12 @@ use Rattle.data_loop.specs.Loops.{plan_of, HasEpochState, IsLoop, IsBetweenEpoch
 use Rattle.data_loop.specs.LoopsOnBoards.{IsOnBoard, IsSameBut, IsNextOf, IsFirstSeat}
 use Rattle.data_loop.specs.LoopKept.{IsDone}
 use Rattle.data_loop.specs.Settling.{HasLedAll}
-use Rattle.data_loop.specs.LoopWay.{HasBoards, HasNoDriver, IsAmid, IsUnderWay, IsSameLoop, IsWayFor}
+use Rattle.data_loop.specs.LoopWay.{HasBoards, HasNoDriver, IsAmid, IsUnderWay, IsSameLoop, IsWayFor, RestsAtMost}
 use Rattle.data_loop.proofs.BeginLemmas.{begins}
 use Rattle.data_loop.proofs.LoopDriverLemmas.{of, drives}
+
+abbrev StartSeat : Type 0
+StartSeat = Seat (Unit {0}) StartView
 
 -- an element that is there
 there : {X : Type 0} (xs : List X) (k : ℕ) → k < length xs → (x : X) × (slice_get xs k ≡ Some x)
@@ -141,3 +147,11 @@ way_on ways s t a b same number answered h = record {
   nodes = subst (λ (x : List ℕ × ℕ). (n : ℕ) → slice_get ways.owner n ≡ Some x.1 → Contains x.0 n) (λ i. (sym same i, sym number i)) h.nodes;
   owned = subst (λ (x : List ℕ × ℕ). (n : ℕ) → Contains x.0 n → slice_get ways.owner n ≡ Some x.1) (λ i. (sym same i, sym number i)) h.owned;
 }
+
+-- it is still started after one
+pub started_on : (a b : Way) → b.begins ≡ a.begins → IsStarted a → IsStarted b
+started_on a b same is = ap (λ (x : StartSeat). x.me.0.runs) same ∙ is
+
+pub rested_on : (a b : Way) → RestsAtMost a b → IsStarted a → IsStarted b
+rested_on a b (inl none) is = ap (λ (w : Way). w.begins.me.0.runs) none ∙ is
+rested_on a b (inr once) is = started_on a b once.begins is

@@ -2,11 +2,12 @@
 -- board, and then the way into the next one.
 -- Source: PipeWire's documentation, "Data loops"; that a loop has a board an epoch is this
 -- project's own.
-use Rattle.std.specs.Prelude.{◌≡◌, ℕ, ◌+◌, List, [], ◌∷◌, Some, slice_get}
+use Rattle.std.specs.Prelude.{◌≡◌, ◌+◌, List, [], ◌∷◌, Some, slice_get}
 use Rattle.board_rule.specs.declared.board.Board.{Board}
 use Rattle.board_rule.specs.OnBoard.{layout}
 use Rattle.ready_queues.specs.declared.way.Way.{Way}
 use Rattle.ready_queues.specs.declared.ways.Ways.{Ways}
+use Rattle.ready_queues.specs.Starting.{HasStarted}
 use Rattle.data_loop.specs.declared.loop_state.LoopState.{LoopState}
 use Rattle.data_loop.specs.LoopsOnBoards.{IsNextOf}
 use Rattle.data_loop.specs.Rounds.{HasMadeRounds}
@@ -29,6 +30,10 @@ AreGoneThrough boards ways (m ∷ ms) s a t b = HasGoneThrough boards ways s a m
     × AreGoneThrough boards ways ms m.0 m.1 t b
 
 -- all epochs that were left
-abbrev pub HasRunAll : List Board → Ways → LoopState → Way → LoopState → Way → Type 0
-HasRunAll boards ways s a t b = (after : List (LoopState × Way))
+abbrev pub HasGoneOn : List Board → Ways → LoopState → Way → LoopState → Way → Type 0
+HasGoneOn boards ways s a t b = (after : List (LoopState × Way))
     × AreGoneThrough boards ways after s a t b
+
+-- the way was started, and then the loop went through all epochs that were left
+abbrev pub HasRunAll : List Board → Ways → LoopState → Way → LoopState → Way → Type 0
+HasRunAll boards ways s a t b = (way : Way) × HasStarted a way × HasGoneOn boards ways s way t b

@@ -5,6 +5,7 @@ ghost use Rattle.data_loop.specs.Loops.{plan_of};
 ghost use Rattle.data_loop.specs.LoopKept.{IsDone};
 ghost use Rattle.data_loop.specs.LoopsOnBoards.{IsOnBoard};
 ghost use Rattle.ready_queues.specs.AnsweredWith.{IsWayOf};
+ghost use Rattle.ready_queues.specs.Starting.{IsIdle, IsStarted, HasStarted};
 ghost use Rattle.data_loop.specs.LoopTries.{HasTurnedAt, HasWoken};
 ghost use Rattle.data_loop.specs.LoopWay.{HasNoDriver, IsUnderWay, IsSameLoop, IsWayFor, RestsAtMost};
 ghost use Rattle.data_loop.specs.PassingOn.{PassesOn, HasTriedAll};
@@ -23,8 +24,10 @@ use std::sync::Wait;
 // What the turn or the try before has woken is passed on, where a node ran.
 fn pass_on<R: Wait>(rt: &R, did: Did, state: &LoopState, ways: &Ways, way: &mut Way)
     requires way { IsWayFor ways.now state.now way.old }
+    requires started { IsStarted way.old }
     ensures passed { PassesOn ways.now did state.now way.old way.new }
     ensures way { IsWayFor ways.now state.now way.new }
+    ensures started { IsStarted way.new }
 {
     match did {
         Did::Ran { .. } => {
@@ -46,11 +49,13 @@ fn try_given<R: Wait, G: Gate>(
 ) -> Did
     requires stands { IsOnBoard (layout board.now) (table_of board.now) state.old }
     requires way { IsWayFor ways.now state.old way.old }
+    requires started { IsStarted way.old }
     ensures turned { HasHadTurns (layout board.now) (table_of board.now) state.old state.new }
     ensures did { HasTurnedAt (layout board.now) node state.old result state.new }
     ensures woken { HasWoken result state.new }
     ensures passed { PassesOn ways.now result state.new way.old way.new }
     ensures way { IsWayFor ways.now state.new way.new }
+    ensures started { IsStarted way.new }
 {
     let did = state.turn_at(board, node, gate);
     pass_on(rt, did, state, ways, way);
@@ -84,12 +89,14 @@ fn try_all<R: Wait, G: Gate>(
 ) -> bool
     requires stands { IsOnBoard (layout board.now) (table_of board.now) state.old }
     requires way { IsWayFor ways.now state.old way.old }
+    requires started { IsStarted way.old }
     ensures turned { HasHadTurns (layout board.now) (table_of board.now) state.old state.new }
     ensures tried { HasTriedAll result (layout board.now) ways.now state.old way.old
         state.new way.new }
     ensures settled { IsTrue result
         → HasSettled (layout board.now) (table_of board.now) state.old state.new }
     ensures way { IsWayFor ways.now state.new way.new }
+    ensures started { IsStarted way.new }
 {
     match state.turn(board, gate) {
         Did::Ran { .. } => {
@@ -118,12 +125,14 @@ fn go_once<R: Wait, G: Gate>(
 ) -> bool
     requires stands { IsOnBoard (layout board.now) (table_of board.now) state.old }
     requires way { IsWayFor ways.now state.old way.old }
+    requires started { IsStarted way.old }
     ensures turned { HasHadTurns (layout board.now) (table_of board.now) state.old state.new }
     ensures settled { IsTrue result
         → HasSettled (layout board.now) (table_of board.now) state.old state.new }
     ensures round { IsRound result (layout board.now) ways.now state.old way.old
         state.new way.new }
     ensures way { IsWayFor ways.now state.new way.new }
+    ensures started { IsStarted way.new }
 {
     match ways.receive(rt, way) {
         Some(node) => {
@@ -145,10 +154,12 @@ fn go_round<R: Wait, G: Gate>(
 )
     requires stands { IsOnBoard (layout board.now) (table_of board.now) state.old }
     requires way { IsWayFor ways.now state.old way.old }
+    requires started { IsStarted way.old }
     ensures settled { HasSettled (layout board.now) (table_of board.now) state.old state.new }
     ensures rounds { HasMadeRounds (layout board.now) ways.now state.old way.old
         state.new way.new }
     ensures way { IsWayFor ways.now state.new way.new }
+    ensures started { IsStarted way.new }
 {
     for _ in rt.forever() {
         if go_once(rt, board, state, ways, way, gate) {
@@ -170,27 +181,43 @@ fn go_through<R: Wait, G: Gate>(
     requires left { state.old.epoch < length (plan_of state.old).epochs }
     requires none { HasNoDriver state.old }
     requires way { IsWayFor ways.now state.old way.old }
+    requires started { IsStarted way.old }
     ensures under_way { IsUnderWay boards.now state.new }
     ensures same { IsSameLoop state.old state.new }
     ensures next { state.new.epoch ≡ state.old.epoch + 1 }
     ensures through { HasGoneThrough boards.now ways.now state.old way.old state.new way.new }
     ensures way { IsWayFor ways.now state.new way.new }
+    ensures started { IsStarted way.new }
 {
     let board = &boards.as_slice()[state.epoch() as usize];
     go_round(rt, board, state, ways, way, gate);
     state.next_epoch();
 }
 
+// The way of a loop, once it was said that its thread runs the loop from now on.
+fn started(ways: &Ways, way: Way) -> Way
+    requires answered { IsWayOf ways.now way }
+    requires own { way.number < ways.now.loops }
+    requires idle { IsIdle way }
+    ensures answered { IsWayOf ways.now result }
+    ensures started { HasStarted way result }
+{
+    let mut way = way;
+    ways.start(&mut way);
+    way
+}
+
 /// Turns until all epochs are done: numbers that its queue gives are tried first, and where it
 /// gives none there is a turn; where no node is awake, the thread rests, unless its loop is called
 /// within some microseconds. It may wait. Takes no memory.
 ///
-/// In each epoch the loop goes in rounds. Either its queue gave a number: then the node of that
-/// very number was tried, and what it woke was passed on. Or the queue gave none: then there was
-/// one turn, and what it woke was passed on; only after such a turn, in which no node was awake and
-/// some had cycles left, may the thread have rested.
+/// First its way is started: from then on who wakes a node of the loop need not wake the driver's
+/// thread. In each epoch the loop goes in rounds. Either its queue gave a number: then the node of
+/// that very number was tried, and what it woke was passed on. Or the queue gave none: then there
+/// was one turn, and what it woke was passed on; only after such a turn, in which no node was awake
+/// and some had cycles left, may the thread have rested.
 /// Condition: there is one board an epoch, in order, on which the loop has its seats; none of its
-/// nodes drives; the way is that of a loop whose nodes are those of the state.
+/// nodes drives; the way is that of a loop whose nodes are those of the state, and was not started.
 pub fn run_all<R: Wait, G: Gate>(
     rt: &R,
     state: LoopState,
@@ -202,15 +229,16 @@ pub fn run_all<R: Wait, G: Gate>(
     requires under_way { IsUnderWay boards.now state }
     requires none { HasNoDriver state }
     requires way { IsWayFor ways.now state way }
+    requires idle { IsIdle way }
     ensures done { IsDone result.0 }
     ensures under_way { IsUnderWay boards.now result.0 }
     ensures same { IsSameLoop state result.0 }
     ensures gone { HasRunAll boards.now ways.now state way result.0 result.1 }
     ensures way { IsWayFor ways.now result.0 result.1 }
+    ensures started { IsStarted result.1 }
 {
     let mut state = state;
-    let mut way = way;
-    ways.start(&mut way);
+    let mut way = started(ways, way);
     while !state.at_end() {
         go_through(rt, boards, &mut state, ways, &mut way, gate);
     }

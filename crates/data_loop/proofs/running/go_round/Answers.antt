@@ -1,6 +1,7 @@
 use Rattle.std.proofs.Common.{[], ◌∷◌, true≢false, sym, subst}
 use Rattle.board_rule.specs.OnBoard.{layout, table_of}
 use Rattle.ready_queues.specs.declared.way.Way.{Way}
+use Rattle.ready_queues.specs.Starting.{IsStarted}
 use Rattle.data_loop.specs.declared.loop_state.LoopState.{LoopState}
 use Rattle.data_loop.specs.LoopWay.{IsWayFor}
 use Rattle.data_loop.specs.Settling.{HasSettled}
@@ -16,6 +17,7 @@ loop-init g c = record {
   turned = no_turns (layout c.args.board.now) (table_of c.args.board.now) c.args.state.now c.requires.stands;
   rounds = λ t b gone. gone;
   way = c.requires.way;
+  started = c.requires.started;
 }
 
 pub loop-preserved : goal.loop-preserved
@@ -26,6 +28,7 @@ loop-preserved g c = record {
       c.go_once.ensures.turned;
   rounds = λ t b gone. c.loop.invariant.rounds t b ((c.go_once.new.state, c.go_once.new.way) ∷ gone.0, (c.if-go_once.ensures.round, gone.1));
   way = c.go_once.ensures.way;
+  started = c.go_once.ensures.started;
 }
 
 pub returns-clause-settled : goal.returns-clause-settled
@@ -42,6 +45,12 @@ returns-clause-way g c = elim c.match-next.branch [
   | in-None w ↦ absurd (true≢false (sym w.in-None.ensures.steps))
   | in-Some+then-go_once w ↦ subst (λ (x : LoopState × Way). IsWayFor c.args.ways.now x.0 x.1) (λ i. (sym w.state-is i, sym w.way'-is i))
       w.go_once.ensures.way
+]
+
+pub returns-clause-started : goal.returns-clause-started
+returns-clause-started g c = elim c.match-next.branch [
+  | in-None w ↦ absurd (true≢false (sym w.in-None.ensures.steps))
+  | in-Some+then-go_once w ↦ subst IsStarted (sym w.way'-is) w.go_once.ensures.started
 ]
 
 pub returns-clause-rounds : goal.returns-clause-rounds

@@ -3,6 +3,7 @@ use Rattle.data_loop.specs.LoopWay.{IsWayFor}
 use Rattle.data_loop.specs.Settling.{HasHadTurns}
 use Rattle.data_loop.specs.Rounds.{HasMadeRounds}
 use Rattle.ready_queues.specs.declared.way.Way.{Way}
+use Rattle.ready_queues.specs.Starting.{IsStarted}
 use Rattle.data_loop.specs.declared.loop_state.LoopState.{LoopState}
 use Rattle.data_loop.proofs.running.go_round.Given as goal
 
@@ -14,4 +15,5 @@ invariant-loop g l = record {
   rounds : (t : LoopState) (b : Way) → HasMadeRounds (layout l.board) l.ways l.state l.way t b
       → HasMadeRounds (layout l.board) l.ways l.fn.state l.fn.way t b;
   way : IsWayFor l.ways l.state l.way;
+  started : IsStarted l.way;
 }

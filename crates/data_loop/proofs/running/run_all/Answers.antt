@@ -1,7 +1,8 @@
 use Rattle.std.proofs.Common.{◌≡◌, ◌<◌, ◌-◌, [], ◌∷◌, length, refl, ap, sym, ◌∙◌, true≢false, arith}
+use Rattle.ready_queues.specs.declared.start_view.StartView.{StartView}
 use Rattle.node_progress.specs.declared.run_model.RunModel.{RunModel}
 use Rattle.data_loop.specs.Loops.{plan_of}
-use Rattle.data_loop.proofs.RunningLemmas.{left, done, same_loop_refl, same_loop_on, none_on}
+use Rattle.data_loop.proofs.RunningLemmas.{left, done, way_on, same_loop_refl, same_loop_on, none_on}
 use Rattle.data_loop.proofs.running.run_all.Goals as goal
 
 pub go_through-requires-clause-left : goal.go_through-requires-clause-left
@@ -23,8 +24,10 @@ loop-state-init g c = record {
   under_way = c.requires.under_way;
   same = same_loop_refl c.args.state;
   none = c.requires.none;
-  gone = λ t b on. on;
-  way = c.requires.way;
+  gone = λ t b on. (c.started-way.result, c.started-way.ensures.started, on);
+  way = way_on c.args.ways.now c.args.state c.args.state c.args.way c.started-way.result refl c.started-way.ensures.started.number
+      c.started-way.ensures.answered c.requires.way;
+  started = ap (λ (v : StartView). v.runs) c.started-way.ensures.started.begins;
 }
 
 pub loop-state-preserved : goal.loop-state-preserved
@@ -35,6 +38,7 @@ loop-state-preserved g c = let i = c.loop-state.invariant in let e = c.go_throug
       none = none_on s t e.same i.none;
       gone = λ u b on. i.gone u b ((t, c.go_through.new.way) ∷ on.0, (e.through, on.1));
       way = e.way;
+      started = e.started;
     }
 
 pub returns-clause-gone : goal.returns-clause-gone

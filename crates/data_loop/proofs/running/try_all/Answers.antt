@@ -1,7 +1,7 @@
 use Rattle.std.proofs.Common.{ℕ, List, length, refl, sym, ap, ◌∙◌, inr}
 use Rattle.board_rule.specs.OnBoard.{layout, table_of}
 use Rattle.data_loop.proofs.SettlingLemmas.{settled_idle, nothing}
-use Rattle.data_loop.proofs.RunningLemmas.{way_on}
+use Rattle.data_loop.proofs.RunningLemmas.{way_on, rested_on}
 use Rattle.data_loop.proofs.running.try_all.Goals as goal
 
 pub returns-then-len-eq0-clause-settled : goal.returns-then-len-eq0-clause-settled
@@ -32,3 +32,6 @@ returns-else-len-eq0-clause-tried g c = inr (
   (λ none. c.if-len-eq0.false (c.len.ensures ∙ ap (λ (l : List (ℕ × ℕ)). length l) (c.found.ensures ∙ none))),
   c.rest_unless_called.ensures.rested,
 )
+
+pub returns-else-len-eq0-clause-started : goal.returns-else-len-eq0-clause-started
+returns-else-len-eq0-clause-started g c = rested_on c.args.way.now c.rest_unless_called.new.way c.rest_unless_called.ensures.rested c.requires.started
