@@ -60,7 +60,8 @@ module _ (Draws : Script → List ℕ → Result (List ℕ) Status → Type 0) w
 abbrev pub done_with : List Store → List ℕ → Result Work Status
 done_with stores text = Ok (record { stores = stores; text = text })
 
-pub picture_put : (request : Request) (names : Names) (text : List ℕ) (stores : List Store)
-    → Ends statuses (IsPicture request names) (Ok text) → stores ≡ [] → Ends statuses (IsAnswerTo request names) (done_with stores text)
-picture_put request names text stores h none = made_goes (IsPicture request names) IsPut Anything text text (done_with stores text) h refl
+pub picture_put : (stranger : List ℕ) (request : Request) (names : Names) (text : List ℕ) (stores : List Store)
+    → Ends statuses (IsPicture stranger request names) (Ok text) → stores ≡ []
+    → Ends statuses (IsAnswerTo stranger request names) (done_with stores text)
+picture_put stranger request names text stores h none = made_goes (IsPicture stranger request names) IsPut Anything text text (done_with stores text) h refl
     (ap (λ (xs : List Store). done_with xs text) none) tt

@@ -42,21 +42,21 @@ pub none_taken : (names : List (List ℕ)) (bytes : List ℕ) → AreTaken names
 none_taken names bytes = record { front = []; lines = refl; told = tt; numbered = refl }
 
 -- event lines of lines, one line more
-more_lines : (front : List (List ℕ)) (line : List ℕ)
-    → event_lines_in (front ++ line ∷ []) ≡ event_lines_in front ++ cond (not (is_passed line)) (line ∷ []) []
-more_lines front line = filter-append (λ l. not (is_passed l)) front (line ∷ [])
+more_lines : (names front : List (List ℕ)) (line : List ℕ)
+    → event_lines_in names (front ++ line ∷ []) ≡ event_lines_in names front ++ cond (not (is_passed names line)) (line ∷ []) []
+more_lines names front line = filter-append (λ l. not (is_passed names l)) front (line ∷ [])
 
 told_more : (names : List (List ℕ)) (front : List (List ℕ)) (line : List ℕ) (old new : List Event) → IsTrace names front old
     → Adds names line old new → IsTrace names (front ++ line ∷ []) new
 told_more names front line old new told (passed over same) =
-    let lines : event_lines_in (front ++ line ∷ []) ≡ event_lines_in front =
-    more_lines front line ∙ ap (λ (b : Bool). event_lines_in front ++ cond (not b) (line ∷ []) []) over ∙ append-nil (event_lines_in front) in
-    subst (λ ls. AllZip (IsLineOf names) ls new) (sym lines) (subst (AllZip (IsLineOf names) (event_lines_in front)) (sym same) told)
+    let lines : event_lines_in names (front ++ line ∷ []) ≡ event_lines_in names front =
+    more_lines names front line ∙ ap (λ (b : Bool). event_lines_in names front ++ cond (not b) (line ∷ []) []) over ∙ append-nil (event_lines_in names front) in
+    subst (λ ls. AllZip (IsLineOf names) ls new) (sym lines) (subst (AllZip (IsLineOf names) (event_lines_in names front)) (sym same) told)
 told_more names front line old new told (event e kept is more) =
-    let lines : event_lines_in (front ++ line ∷ []) ≡ event_lines_in front ++ line ∷ [] =
-    more_lines front line ∙ ap (λ (b : Bool). event_lines_in front ++ cond (not b) (line ∷ []) []) kept in
-    subst (λ ls. AllZip (IsLineOf names) ls new) (sym lines) (subst (AllZip (IsLineOf names) (event_lines_in front ++ line ∷ [])) (sym more)
-    (all_zipped_more (IsLineOf names) (event_lines_in front) old line e told is))
+    let lines : event_lines_in names (front ++ line ∷ []) ≡ event_lines_in names front ++ line ∷ [] =
+    more_lines names front line ∙ ap (λ (b : Bool). event_lines_in names front ++ cond (not b) (line ∷ []) []) kept in
+    subst (λ ls. AllZip (IsLineOf names) ls new) (sym lines) (subst (AllZip (IsLineOf names) (event_lines_in names front ++ line ∷ [])) (sym more)
+    (all_zipped_more (IsLineOf names) (event_lines_in names front) old line e told is))
 
 -- one line more is taken
 pub take_more : (names : List (List ℕ)) (bytes rest line more : List ℕ) (old new : List Event) (number next : ℕ)

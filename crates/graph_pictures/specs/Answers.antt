@@ -36,13 +36,14 @@ abbrev pub IsRunDrawn : (Script → List ℕ → Result (List ℕ) Status → Ty
 IsRunDrawn Draws script trace names = Binds statuses (IsScriptRead script names)
     (λ s. IsTraceDrawn (Draws s) trace names)
 
--- THE PICTURE of a request
-abbrev pub IsPicture : Request → Names → Expected Status (List ℕ) → Type 0
-IsPicture (R.Graph script) names = IsGraphDrawn script names
-IsPicture (R.RunGraph script trace) names = IsRunDrawn DrawsRun script trace names
-IsPicture (R.Timeline script trace cycles at) names =
-    IsRunDrawn (DrawsTrace cycles at) script trace names
-IsPicture (R.Wave file) names = IsWaveDrawn file names
+-- THE PICTURE of a request; of a bad line of a trace this is the name that the script does not have
+abbrev pub IsPicture : List ℕ → Request → Names → Expected Status (List ℕ) → Type 0
+IsPicture stranger (R.Graph script) names = IsGraphDrawn script names
+IsPicture stranger (R.RunGraph script trace) names =
+    IsRunDrawn (DrawsRun stranger) script trace names
+IsPicture stranger (R.Timeline script trace cycles at) names =
+    IsRunDrawn (DrawsTrace cycles at stranger) script trace names
+IsPicture stranger (R.Wave file) names = IsWaveDrawn file names
 
 -- a picture is put, and nothing is stored
 abbrev pub put_work : List ℕ → Work
@@ -52,10 +53,10 @@ abbrev pub IsPut : List ℕ → Result Work Status → Type 0
 IsPut text outcome = outcome ≡ Ok (put_work text)
 
 -- THE ANSWER to a request: its picture is put
-abbrev pub IsAnswerTo : Request → Names → Answer Status → Type 0
-IsAnswerTo request names = Binds statuses (IsPicture request names)
+abbrev pub IsAnswerTo : List ℕ → Request → Names → Answer Status → Type 0
+IsAnswerTo stranger request names = Binds statuses (IsPicture stranger request names)
     (λ text. Reads statuses (IsPut text))
 
 -- and to words
-abbrev pub IsAnswered : Words → Names → Answer Status → Type 0
-IsAnswered words = IsAnswer statuses (request_of words) IsAnswerTo
+abbrev pub IsAnswered : List ℕ → Words → Names → Answer Status → Type 0
+IsAnswered stranger words = IsAnswer statuses (request_of words) (IsAnswerTo stranger)

@@ -14,6 +14,7 @@ pub mod Refusals
 pub mod Rows
 pub mod ScriptSentences
 pub mod FileSentences
+pub mod UsageSentences
 pub mod Sentences
 pub mod StatusText
 pub mod Statuses
@@ -22,6 +23,8 @@ pub mod Timeline
 pub mod TimelineText
 pub mod TraceAnswers
 pub mod TraceText
+pub mod LineWords
+pub mod Strangers
 pub mod VerdictWords
 pub mod Words
 pub mod AtWork

@@ -9,7 +9,7 @@ use Rattle.graph_script.specs.declared.command.Command.TheVariants as C
 use Rattle.graph_script.specs.declared.script.Line.{Line}
 use Rattle.graph_script.specs.Lexical.{words_of}
 use Rattle.graph_pictures.specs.declared.refusals.Refusal.{Refusal}
-use Rattle.graph_pictures.specs.TraceText.{begins}
+use Rattle.graph_pictures.specs.LineWords.{begins}
 
 -- the numbers of the lines of a script that link
 abbrev pub link_at : ℕ → Command → Option ℕ

@@ -13,6 +13,8 @@ use Rattle.graph_pictures.specs.FileSentences.{wav_said, bytes_said}
 use Rattle.graph_pictures.specs.Template.{filled}
 use Rattle.graph_pictures.specs.Reading.{trace_place}
 use Rattle.graph_pictures.specs.ScriptSentences.{why_said}
+use Rattle.graph_pictures.specs.UsageSentences.{usage_said, first_said}
+use Rattle.word_hints.specs.ShellSigns.{shell_hint}
 
 -- the file at a place: the third word is the trace's, the second any other's
 abbrev pub file_word : List (List ℕ) → ℕ → List ℕ
@@ -21,13 +23,6 @@ file_word words place = if place == trace_place then slice_index_or words 2 []
 
 abbrev pub file_said : List (List ℕ) → ℕ → List ℕ
 file_said words place = escaped (file_word words place)
-
--- the forms of the commands, the version, and where the manual is
-abbrev pub usage_said : List ℕ
-usage_said = codes "usage: pipegraph-pictures graph SCRIPT [TRACE] | " ++ codes
-    "timeline SCRIPT TRACE [FROM TO] [VERDICT] | wave FILE\n" ++ codes
-    "version 0.1; the manual: man pipegraph-pictures where it is installed, and " ++ codes
-    "man -l docs/pipegraph-pictures.1\n"
 
 -- a sentence about a file
 abbrev pub of_file : List ℕ → List (List ℕ) → ℕ → List ℕ → List ℕ
@@ -38,10 +33,28 @@ of_file front words place said =
 abbrev pub of_script : List (List ℕ) → ℕ → ScriptWhy → List ℕ
 of_script words line why = of_file [] words 0 (filled (codes ":%: ") (line ∷ [])) ++ why_said why
 
+-- a line of a trace that is refused, by the name in it that the script does not have, or none
+abbrev pub no_node : List ℕ → List ℕ → List ℕ
+no_node script name = codes "the run of another script: " ++ escaped script
+    ++ codes " has no node " ++ escaped name ++ codes "\n"
+
+abbrev pub line_said : List (List ℕ) → List ℕ → List ℕ
+line_said words [] = codes "no line of a run\n"
+line_said words (c ∷ cs) = no_node (file_word words 0) (c ∷ cs)
+
+abbrev pub of_line : List (List ℕ) → ℕ → List ℕ → List ℕ
+of_line words number stranger =
+    of_file [] words trace_place (filled (codes ":%: ") (number ∷ [])) ++ line_said words stranger
+
 -- a trace that has not the cycle of the word at an index
 abbrev pub of_cycle : List (List ℕ) → ℕ → List ℕ
 of_cycle words word = of_file [] words trace_place (codes ": it has no event of cycle ")
     ++ escaped (slice_index_or words word []) ++ codes "\n"
+
+-- a file that is not there, with the sign of the shell in its name
+abbrev pub of_absent : List (List ℕ) → ℕ → List ℕ
+of_absent words place = of_file (codes "cannot read ") words place (codes ": there is no such file")
+    ++ shell_hint (file_word words place) ++ codes "\n"
 
 -- a file that the system refuses, and why, where that is known
 abbrev pub of_refused : List (List ℕ) → ℕ → Option FileWhy → List ℕ
@@ -49,19 +62,19 @@ of_refused words place why =
     of_file (codes "cannot read ") words place (codes ": the system refuses it")
     ++ reasons.why_said why ++ codes "\n"
 
--- THE SENTENCE of a status, with why the last load failed; there is none where all was done
-unfoldable pub explained : List (List ℕ) → Status → Option FileWhy → List ℕ
-explained words S.Ok reason = []
-explained words (S.Usage word) reason = usage_said
-explained words (S.Script line why) reason = of_script words line why
-explained words (S.Line number) reason =
-    of_file [] words trace_place (filled (codes ":%: no line of a run\n") (number ∷ []))
-explained words (S.NoCycle word) reason = of_cycle words word
-explained words (S.Wav place why) reason = of_file [] words place (wav_said why)
-explained words (S.Absent place) reason =
-    of_file (codes "cannot read ") words place (codes ": there is no such file\n")
-explained words (S.ReadFault place) reason = of_refused words place reason
-explained words S.WriteFault reason = codes "pipegraph-pictures: the picture could not be written\n"
-explained words (S.Limit place which) reason =
+-- THE SENTENCE of a status, with the name that the script does not have, and why the last load
+-- failed; there is none where all was done
+unfoldable pub explained : List (List ℕ) → Status → List ℕ → Option FileWhy → List ℕ
+explained words S.Ok stranger reason = []
+explained words (S.Usage word) stranger reason = first_said words word ++ usage_said
+explained words (S.Script line why) stranger reason = of_script words line why
+explained words (S.Line number) stranger reason = of_line words number stranger
+explained words (S.NoCycle word) stranger reason = of_cycle words word
+explained words (S.Wav place why) stranger reason = of_file [] words place (wav_said why)
+explained words (S.Absent place) stranger reason = of_absent words place
+explained words (S.ReadFault place) stranger reason = of_refused words place reason
+explained words S.WriteFault stranger reason =
+    codes "pipegraph-pictures: the picture could not be written\n"
+explained words (S.Limit place which) stranger reason =
     of_file (codes "cannot read ") words place (bytes_said which)
-explained words S.Memory reason = codes "pipegraph-pictures: no memory was left\n"
+explained words S.Memory stranger reason = codes "pipegraph-pictures: no memory was left\n"

@@ -11,13 +11,15 @@ use crate::reading::picture_of;
 use crate::status::Status;
 use crate::words::{Request, read_words};
 use command_frame::{Misread, Program, Work, run};
-use pw_lists::Items;
+use pw_lists::{Items, Text};
 use pw_outside::{Files, Sink};
 use std::alloc::Global;
 
-/// The program. It keeps nothing of a request.
+/// The program, with the name of the node for which it refused a line of a trace.
 #[derive(Drop)]
-pub(crate) struct Pictures;
+pub(crate) struct Pictures {
+    pub stranger: Text,
+}
 
 impl Program<Status, Request> for Pictures {
     ghost use Rattle.std.specs.Prelude.{◌≡◌, []};
@@ -28,7 +30,7 @@ impl Program<Status, Request> for Pictures {
 
     ghost is_sound = { λ request. Unit {0} };
 
-    ghost answers = { λ old new request names a. IsAnswerTo request names a };
+    ghost answers = { λ old new request names a. IsAnswerTo new.stranger request names a };
 
     ghost delivers = { λ work. work.stores ≡ [] };
 
@@ -42,7 +44,7 @@ impl Program<Status, Request> for Pictures {
         request: Request,
         files: &mut F,
     ) -> Result<Work, Status> {
-        match picture_of(alloc, files, &request) {
+        match picture_of(alloc, files, &request, &mut self.stranger) {
             Err(status) => Err(status),
             Ok(text) => Ok(Work {
                 stores: Items::new(alloc),
@@ -58,18 +60,20 @@ impl Program<Status, Request> for Pictures {
 /// `timeline SCRIPT TRACE`, the same with the first and the last of the cycles that are drawn, or
 /// `wave FILE`. Loads are made in this order, and nothing is stored. A script or a file is refused
 /// with the line and the status that `pipegraph` has for it; of a trace with a line that is no
-/// event line that line's number is printed; a cycle that no event is of is refused as a word is.
-/// Where memory is short for a line, that of `Memory` is printed instead. Takes memory for the
+/// event line, or that names a node which the script does not have, that line's number is printed,
+/// and `stranger` is that node's name, or nothing; a cycle that no event is of is refused as a word
+/// is. Where memory is short for a line, that of `Memory` is printed instead. Takes memory for the
 /// files and for the text.
 pub fn print_picture<F: Files, O: Sink>(
     alloc: Global,
     words: &[String],
     files: &mut F,
     out: &mut O,
+    stranger: &mut Text,
 ) -> Status
     // The expected answer to the words, which the output and the status follow, where the files
     // report what they hold.
-    ensures told { IsTold statuses (IsAnswered (map string_bytes words.now))
+    ensures told { IsTold statuses (IsAnswered stranger.new (map string_bytes words.now))
         (outside F.Files O.Sink files.old out.old) (outside F.Files O.Sink files.new out.new)
         result }
 
@@ -80,7 +84,7 @@ pub fn print_picture<F: Files, O: Sink>(
     ensures usage { IsUsage statuses (request_of (map string_bytes words.now)) result }
 
     // Where no count of faults rose, the status is an expected answer's, or memory was short.
-    ensures complete { IsComplete statuses (IsAnswered (map string_bytes words.now))
+    ensures complete { IsComplete statuses (IsAnswered stranger.new (map string_bytes words.now))
         (outside F.Files O.Sink files.old out.old) (outside F.Files O.Sink files.new out.new)
         result }
 
@@ -88,5 +92,10 @@ pub fn print_picture<F: Files, O: Sink>(
     ensures held { F.held files.new ≡ F.held files.old }
     ensures stores { F.store_faults files.new ≡ F.store_faults files.old }
 {
-    run(&mut Pictures, alloc, words, files, out)
+    let mut pictures = Pictures {
+        stranger: Items::new(alloc),
+    };
+    let status = run(&mut pictures, alloc, words, files, out);
+    *stranger = pictures.stranger;
+    status
 }

@@ -14,6 +14,7 @@ use crate::cycles::{Cycles, chosen};
 use crate::graph_drawing::graph;
 use crate::marks::mark_of;
 use crate::status::Status;
+use crate::strangers::stranger_in;
 use crate::timeline_drawing::timeline;
 use crate::trace_text::read_run;
 use crate::wave_drawing::wave;
@@ -94,20 +95,29 @@ fn read_graph<F: Files>(alloc: Global, files: &mut F, name: &Text) -> Result<Tex
 }
 
 // The timeline of those events of a run's text that are asked for, with the mark at the event of a
-// number.
+// number; of a bad line the name that the script does not have is kept.
 fn drawn_trace(
     alloc: Global,
     script: &Script,
     cycles: Option<Cycles>,
     at: Option<u32>,
     bytes: &[u8],
+    stranger: &mut Text,
 ) -> Result<Text, Status>
     requires { IsSoundScript script.now }
-    ensures drawn { DrawsTrace cycles at script.now bytes.now result }
+    ensures drawn { DrawsTrace cycles at stranger.new script.now bytes.now result }
     ensures cause { CommandCause statuses Anything 0 0 result }
 {
     match read_run(alloc, script.names(), bytes) {
-        Err(TraceFault::Line(number)) => Err(Status::Line { number }),
+        Err(TraceFault::Line(number)) => {
+            match stranger_in(alloc, script.names().as_slice(), bytes, number) {
+                Ok(name) => {
+                    *stranger = name;
+                    Err(Status::Line { number })
+                }
+                Err(_memory) => Err(Status::Memory),
+            }
+        }
         Err(TraceFault::Memory) => Err(Status::Memory),
         Ok(events) => {
             let mark = mark_of(cycles, events.as_slice(), at);
@@ -123,14 +133,28 @@ fn drawn_trace(
     }
 }
 
-// The graph of a script, with what a run's text says of its links.
-fn drawn_run(alloc: Global, script: &Script, bytes: &[u8]) -> Result<Text, Status>
+// The graph of a script, with what a run's text says of its links; of a bad line the name that the
+// script does not have is kept.
+fn drawn_run(
+    alloc: Global,
+    script: &Script,
+    bytes: &[u8],
+    stranger: &mut Text,
+) -> Result<Text, Status>
     requires { IsSoundScript script.now }
-    ensures drawn { DrawsRun script.now bytes.now result }
+    ensures drawn { DrawsRun stranger.new script.now bytes.now result }
     ensures cause { CommandCause statuses Anything 0 0 result }
 {
     match read_run(alloc, script.names(), bytes) {
-        Err(TraceFault::Line(number)) => Err(Status::Line { number }),
+        Err(TraceFault::Line(number)) => {
+            match stranger_in(alloc, script.names().as_slice(), bytes, number) {
+                Ok(name) => {
+                    *stranger = name;
+                    Err(Status::Line { number })
+                }
+                Err(_memory) => Err(Status::Memory),
+            }
+        }
         Err(TraceFault::Memory) => Err(Status::Memory),
         Ok(_events) => match graph(alloc, script, bytes) {
             Ok(text) => Ok(text),
@@ -162,18 +186,19 @@ fn read_trace<F: Files>(
     name: &Text,
     cycles: Option<Cycles>,
     at: Option<u32>,
+    stranger: &mut Text,
 ) -> Result<Text, Status>
     requires { IsSoundScript script.now }
     ensures files { LoadsOnly (F.held files.old) (F.held files.new) (F.load_faults files.old)
         (F.load_faults files.new) (F.store_faults files.old) (F.store_faults files.new) }
     ensures told { Tells statuses (F.held files.old)
-        (IsTraceDrawn (DrawsTrace cycles at script.now) name.now) result }
+        (IsTraceDrawn (DrawsTrace cycles at stranger.new script.now) name.now) result }
     ensures cause { CommandCause statuses Anything (F.load_faults files.old)
         (F.load_faults files.new) result }
 {
     match load_trace(alloc, files, name) {
         Err(status) => Err(status),
-        Ok(bytes) => drawn_trace(alloc, script, cycles, at, bytes.as_slice()),
+        Ok(bytes) => drawn_trace(alloc, script, cycles, at, bytes.as_slice(), stranger),
     }
 }
 
@@ -183,18 +208,19 @@ fn read_links<F: Files>(
     files: &mut F,
     script: &Script,
     name: &Text,
+    stranger: &mut Text,
 ) -> Result<Text, Status>
     requires { IsSoundScript script.now }
     ensures files { LoadsOnly (F.held files.old) (F.held files.new) (F.load_faults files.old)
         (F.load_faults files.new) (F.store_faults files.old) (F.store_faults files.new) }
     ensures told { Tells statuses (F.held files.old)
-        (IsTraceDrawn (DrawsRun script.now) name.now) result }
+        (IsTraceDrawn (DrawsRun stranger.new script.now) name.now) result }
     ensures cause { CommandCause statuses Anything (F.load_faults files.old)
         (F.load_faults files.new) result }
 {
     match load_trace(alloc, files, name) {
         Err(status) => Err(status),
-        Ok(bytes) => drawn_run(alloc, script, bytes.as_slice()),
+        Ok(bytes) => drawn_run(alloc, script, bytes.as_slice(), stranger),
     }
 }
 
@@ -204,17 +230,18 @@ fn read_run_graph<F: Files>(
     files: &mut F,
     script: &Text,
     trace: &Text,
+    stranger: &mut Text,
 ) -> Result<Text, Status>
     ensures files { LoadsOnly (F.held files.old) (F.held files.new) (F.load_faults files.old)
         (F.load_faults files.new) (F.store_faults files.old) (F.store_faults files.new) }
-    ensures told { Tells statuses (F.held files.old) (IsRunDrawn DrawsRun script.now trace.now)
-        result }
+    ensures told { Tells statuses (F.held files.old) (IsRunDrawn (DrawsRun stranger.new) script.now
+        trace.now) result }
     ensures cause { CommandCause statuses Anything (F.load_faults files.old)
         (F.load_faults files.new) result }
 {
     match read_script(alloc, files, script) {
         Err(status) => Err(status),
-        Ok(script) => read_links(alloc, files, &script, trace),
+        Ok(script) => read_links(alloc, files, &script, trace, stranger),
     }
 }
 
@@ -226,17 +253,18 @@ fn read_timeline<F: Files>(
     trace: &Text,
     cycles: Option<Cycles>,
     at: Option<u32>,
+    stranger: &mut Text,
 ) -> Result<Text, Status>
     ensures files { LoadsOnly (F.held files.old) (F.held files.new) (F.load_faults files.old)
         (F.load_faults files.new) (F.store_faults files.old) (F.store_faults files.new) }
     ensures told { Tells statuses (F.held files.old)
-        (IsRunDrawn (DrawsTrace cycles at) script.now trace.now) result }
+        (IsRunDrawn (DrawsTrace cycles at stranger.new) script.now trace.now) result }
     ensures cause { CommandCause statuses Anything (F.load_faults files.old)
         (F.load_faults files.new) result }
 {
     match read_script(alloc, files, script) {
         Err(status) => Err(status),
-        Ok(script) => read_trace(alloc, files, &script, trace, cycles, at),
+        Ok(script) => read_trace(alloc, files, &script, trace, cycles, at, stranger),
     }
 }
 
@@ -277,27 +305,31 @@ fn read_wave<F: Files>(alloc: Global, files: &mut F, name: &Text) -> Result<Text
     }
 }
 
-/// The picture that a request asks for, by the files. A load that fails raises their count.
+/// The picture that a request asks for, by the files; of a bad line of a trace the name of the node
+/// that the script does not have is kept, or none. A load that fails raises the count of the files.
 pub(crate) fn picture_of<F: Files>(
     alloc: Global,
     files: &mut F,
     request: &Request,
+    stranger: &mut Text,
 ) -> Result<Text, Status>
     ensures files { LoadsOnly (F.held files.old) (F.held files.new) (F.load_faults files.old)
         (F.load_faults files.new) (F.store_faults files.old) (F.store_faults files.new) }
-    ensures told { Tells statuses (F.held files.old) (IsPicture request.now) result }
+    ensures told { Tells statuses (F.held files.old) (IsPicture stranger.new request.now) result }
     ensures cause { CommandCause statuses Anything (F.load_faults files.old)
         (F.load_faults files.new) result }
 {
     match request {
         Request::Graph { script } => read_graph(alloc, files, script),
-        Request::RunGraph { script, trace } => read_run_graph(alloc, files, script, trace),
+        Request::RunGraph { script, trace } => {
+            read_run_graph(alloc, files, script, trace, stranger)
+        }
         Request::Timeline {
             script,
             trace,
             cycles,
             at,
-        } => read_timeline(alloc, files, script, trace, *cycles, *at),
+        } => read_timeline(alloc, files, script, trace, *cycles, *at, stranger),
         Request::Wave { file } => read_wave(alloc, files, file),
     }
 }

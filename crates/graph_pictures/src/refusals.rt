@@ -5,7 +5,8 @@ ghost use Rattle.graph_script.specs.Lexical.{words_of};
 ghost use Rattle.graph_pictures.specs.Refusals.{link_at, link_numbers, tells_link, told_links, refusal_of, refusals, is_refused, refusal_at};
 
 use crate::outcomes::push_some;
-use crate::trace_text::{begins, next_line};
+use crate::strangers::begins;
+use crate::trace_text::next_line;
 use graph_script::{Command, Line, next_word};
 use pw_lists::{Items, Memory, Text};
 use std::alloc::Global;
@@ -67,8 +68,8 @@ fn next_told(text: &[u8]) -> Option<(&[u8], &[u8])>
     None
 }
 
-// The word of a line at an index from 0 on; nothing where it has fewer.
-fn word_at(line: &[u8], index: u32) -> &[u8]
+/// The word of a line at an index from 0 on; nothing where it has fewer.
+pub(crate) fn word_at(line: &[u8], index: u32) -> &[u8]
     ensures { result.now ≡ slice_index_or (words_of line.now) index [] }
 {
     let mut rest = line;

@@ -1,18 +1,22 @@
 //! Sentences for people.
 ghost use Rattle.std.specs.Prelude.{◌≡◌, ◌++◌, ◌∷◌, [], map, string_bytes, slice_index_or, IfOk, OnOk};
 ghost use Rattle.graph_pictures.specs.Template.{filled};
-ghost use Rattle.graph_pictures.specs.Sentences.{file_word, usage_said, of_file, of_script, of_cycle, of_refused, explained};
+ghost use Rattle.graph_pictures.specs.Sentences.{file_word, of_file, of_script, no_node, line_said, of_line};
+ghost use Rattle.graph_pictures.specs.Sentences.{of_cycle, of_absent, of_refused, explained};
+ghost use Rattle.graph_pictures.specs.UsageSentences.{usage_said, first_said};
 ghost use Rattle.shown_words.specs.Escaping.{escaped};
 
 use crate::file_sentences::{bytes_said, wav_said};
 use crate::script_sentences::why_said;
 use crate::status::Status;
 use crate::template::fill;
+use crate::usage_sentences::{put_first, usage_said};
 use graph_script::ScriptWhy;
 use pw_lists::{Items, Memory, Text};
 use shown_words::put_escaped;
 use std::alloc::Global;
 use system_files::{FileWhy, why_words};
+use word_hints::shell_hint;
 
 /// The place of a trace.
 const TRACE_PLACE: u32 = u32::MAX;
@@ -97,6 +101,72 @@ fn put_word(text: &mut Text, words: &[String], index: u32) -> Result<(), Memory>
     put_escaped(text, word_at(words, index as usize))
 }
 
+// That a line is of the run of another script, by a name that this one does not have.
+fn put_no_node(text: &mut Text, script: &[u8], name: &[u8]) -> Result<(), Memory>
+    ensures { OnOk result (text.new ≡ text.old ++ no_node script.now name.now) }
+{
+    text.extend(b"the run of another script: ")?;
+    put_escaped(text, script)?;
+    text.extend(b" has no node ")?;
+    put_escaped(text, name)?;
+    text.extend(b"\n")?;
+    Ok(())
+}
+
+// Why a line of a trace is refused, by the name in it that the script does not have, or none.
+fn put_line_said(text: &mut Text, words: &[String], stranger: &[u8]) -> Result<(), Memory>
+    ensures { OnOk result (text.new ≡ text.old
+        ++ line_said (map string_bytes words.now) stranger.now) }
+{
+    match stranger {
+        [] => text.extend(b"no line of a run\n"),
+        [_, ..] => put_no_node(text, file_word(words, 0), stranger),
+    }
+}
+
+// A sentence about a line of a trace that is refused.
+fn put_of_trace(
+    alloc: Global,
+    text: &mut Text,
+    words: &[String],
+    number: u64,
+    stranger: &[u8],
+) -> Result<(), Memory>
+    ensures { OnOk result (text.new ≡ text.old
+        ++ of_line (map string_bytes words.now) number stranger.now) }
+{
+    put_of_line(alloc, text, words, TRACE_PLACE, number, b":%: ")?;
+    put_line_said(text, words, stranger)?;
+    Ok(())
+}
+
+// A sentence about a file that is not there, with the sign of the shell in its name.
+fn put_of_absent(text: &mut Text, words: &[String], place: u32) -> Result<(), Memory>
+    ensures { OnOk result
+        (text.new ≡ text.old ++ of_absent (map string_bytes words.now) place) }
+{
+    put_of_file(
+        text,
+        b"cannot read ",
+        words,
+        place,
+        b": there is no such file",
+    )?;
+    text.extend(shell_hint(file_word(words, place)))?;
+    text.extend(b"\n")?;
+    Ok(())
+}
+
+// A sentence about words that are no command line.
+fn put_usage(text: &mut Text, words: &[String], word: u32) -> Result<(), Memory>
+    ensures { OnOk result (text.new ≡ text.old
+        ++ (first_said (map string_bytes words.now) word ++ usage_said)) }
+{
+    put_first(text, words, word)?;
+    text.extend(usage_said())?;
+    Ok(())
+}
+
 // A sentence about a cycle that a trace has not, which the word at an index names.
 fn put_of_cycle(text: &mut Text, words: &[String], word: u32) -> Result<(), Memory>
     ensures { OnOk result
@@ -136,16 +206,6 @@ fn put_of_refused(
     Ok(())
 }
 
-// The forms of the commands, the version, and where the manual is.
-fn usage_said() -> &'static [u8]
-    ensures { result.now ≡ usage_said }
-{
-    b"usage: pipegraph-pictures graph SCRIPT [TRACE] | \
-      timeline SCRIPT TRACE [FROM TO] [VERDICT] | wave FILE\n\
-      version 0.1; the manual: man pipegraph-pictures where it is installed, and \
-      man -l docs/pipegraph-pictures.1\n"
-}
-
 // The sentence of a status.
 #[tactic(auto, unfolding(crate::specs::Sentences::explained))]
 fn put_sentence(
@@ -153,32 +213,20 @@ fn put_sentence(
     text: &mut Text,
     words: &[String],
     status: Status,
+    stranger: &[u8],
     reason: Option<FileWhy>,
 ) -> Result<(), Memory>
-    ensures { OnOk result
-        (text.new ≡ text.old ++ explained (map string_bytes words.now) status reason) }
+    ensures { OnOk result (text.new ≡ text.old
+        ++ explained (map string_bytes words.now) status stranger.now reason) }
 {
     match status {
         Status::Ok => Ok(()),
-        Status::Usage { .. } => text.extend(usage_said()),
+        Status::Usage { word } => put_usage(text, words, word),
         Status::Script { line, why } => put_of_script(alloc, text, words, u64::from(line), why),
-        Status::Line { number } => put_of_line(
-            alloc,
-            text,
-            words,
-            TRACE_PLACE,
-            number,
-            b":%: no line of a run\n",
-        ),
+        Status::Line { number } => put_of_trace(alloc, text, words, number, stranger),
         Status::NoCycle { word } => put_of_cycle(text, words, word),
         Status::Wav { place, why } => put_of_file(text, &[], words, place, wav_said(why)),
-        Status::Absent { place } => put_of_file(
-            text,
-            b"cannot read ",
-            words,
-            place,
-            b": there is no such file\n",
-        ),
+        Status::Absent { place } => put_of_absent(text, words, place),
         Status::ReadFault { place } => put_of_refused(text, words, place, reason),
         Status::WriteFault => {
             text.extend(b"pipegraph-pictures: the picture could not be written\n")
@@ -191,18 +239,20 @@ fn put_sentence(
 }
 
 /// The sentence that says why no picture was printed, by the words of the command line, by the
-/// status and by why the files say that their last load failed: nothing where all was done. Takes
-/// memory for the text.
+/// status, by the name of the node for which a line of a trace was refused, or nothing, and by why
+/// the files say that their last load failed: nothing where all was done. Takes memory for the
+/// text.
 pub fn explain(
     alloc: Global,
     words: &[String],
     status: Status,
+    stranger: &[u8],
     reason: Option<FileWhy>,
 ) -> Result<Text, Memory>
-    ensures { IfOk result
-        (λ text. text ≡ explained (map string_bytes words.now) status reason) }
+    ensures { IfOk result (λ text. text
+        ≡ explained (map string_bytes words.now) status stranger.now reason) }
 {
     let mut text = Items::new(alloc);
-    put_sentence(alloc, &mut text, words, status, reason)?;
+    put_sentence(alloc, &mut text, words, status, stranger, reason)?;
     Ok(text)
 }

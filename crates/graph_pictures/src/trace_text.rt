@@ -2,8 +2,9 @@
 ghost use Rattle.std.specs.Prelude.{◌≡◌, ◌<◌, List, [], ◌∷◌, ◌++◌, length, IfOk, IfErr, IfSome, MatchOption};
 ghost use Rattle.pw_graph.specs.declared.event.Event.{Event};
 ghost use Rattle.cycle_trace.specs.TraceReading.{trace_lines, IsLineOf, IsNoLine, AreNames};
-ghost use Rattle.graph_pictures.specs.TraceText.{begins, is_passed, IsTrace, IsBadness, Takes};
+ghost use Rattle.graph_pictures.specs.TraceText.{is_passed, IsTrace, IsBadness, Takes};
 
+use crate::strangers::{is_of_end, is_of_link, stranger};
 use cycle_trace::{TraceFault, read_events};
 use pw_graph::Event;
 use pw_lists::{Items, Memory, Text, next_piece};
@@ -30,24 +31,11 @@ pub(crate) fn next_line(text: &[u8]) -> Option<(&[u8], &[u8])>
     }
 }
 
-/// Whether a line begins with a word.
-pub(crate) fn begins(line: &[u8], word: &[u8]) -> bool
-    ensures { result ≡ begins line.now word.now }
+// Whether a line says what a run did with nodes that the script has, and no event.
+fn is_passed(names: &Items<Text>, line: &[u8]) -> bool
+    ensures { result ≡ is_passed names.now line.now }
 {
-    line.starts_with(word)
-}
-
-// Whether a line says what a run did, and no event.
-fn is_passed(line: &[u8]) -> bool
-    ensures { result ≡ is_passed line.now }
-{
-    begins(line, b"link ")
-        || begins(line, b"nolink ")
-        || begins(line, b"unlink ")
-        || begins(line, b"nounlink ")
-        || begins(line, b"wrote ")
-        || begins(line, b"peak ")
-        || begins(line, b"unused ")
+    (is_of_link(line) || is_of_end(line)) && !stranger(names.as_slice(), line).is_some()
 }
 
 // The first of events, if there is one.
@@ -88,7 +76,7 @@ fn take_line(
     requires whole { trace_lines (line.now ++ 10 ∷ []) ≡ line.now ∷ [] }
     ensures { IfOk result (Takes names.now line.now events.old events.new) }
 {
-    if is_passed(line) {
+    if is_passed(names, line) {
         return Ok(true);
     }
     match read_line(alloc, names, line)? {
@@ -101,7 +89,8 @@ fn take_line(
 }
 
 /// The events of a run's text, or of its event lines only: the lines that say what links, sinks
-/// and meters did are passed over. Or the first line that is neither, counted from 1.
+/// and meters did, of nodes that the script has, are passed over. Or the first line that is
+/// neither, counted from 1.
 ///
 /// Takes memory for the events, and for each line; time in proportion to the bytes and the names.
 pub(crate) fn read_run(

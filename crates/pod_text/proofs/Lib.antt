@@ -5,3 +5,4 @@ mod AnswerLemmas
 mod ChoiceLemmas
 mod OfferLemmas
 mod DumpLemmas
+mod Grown

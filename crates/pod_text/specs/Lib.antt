@@ -10,6 +10,8 @@ pub mod DumpMaking
 pub mod Delivery
 pub mod Showing
 pub mod UsageText
+pub mod WordRules
+pub mod UsageFaults
 pub mod LineFaults
 pub mod Sentences
 pub mod Answers

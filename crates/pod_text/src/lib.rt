@@ -23,6 +23,8 @@ mod showing;
 mod source;
 mod status;
 mod top;
+mod usage_faults;
+mod word_rules;
 mod words;
 
 pub use choices::choice_said;

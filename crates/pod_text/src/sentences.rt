@@ -1,18 +1,24 @@
 //! The sentence of a status, for people.
-ghost use Rattle.std.specs.Prelude.{◌≡◌, ◌++◌, map, string_bytes, codes, OnOk, IfOk};
-ghost use Rattle.pod_text.specs.UsageText.{usage_text, version_said};
-ghost use Rattle.pod_text.specs.Sentences.{word, at_word, asks_version, word_fault};
-ghost use Rattle.pod_text.specs.Sentences.{usage_fault, too_long_said, line_fault};
+ghost use Rattle.std.specs.Prelude.{◌≡◌, ◌++◌, [], map, string_bytes, codes, OnOk, IfOk};
+ghost use Rattle.pod_text.specs.UsageText.{usage_text};
+ghost use Rattle.pod_text.specs.Sentences.{at_word, too_long_said, line_fault, absent_said};
+ghost use Rattle.pod_text.specs.LineFaults.{list_line, dump_line};
+ghost use Rattle.pod_text.specs.UsageFaults.{word};
+ghost use Rattle.word_hints.specs.ShellSigns.{shell_hint};
 ghost use Rattle.pod_text.specs.Sentences.{refused_text, fault_text, after, sentence_of};
 
-use crate::line_faults::{dump_why_text, why_text};
+use crate::fault::ListWhy;
+use crate::line_faults::{put_dump_line, put_list_line};
 use crate::showing::{put_line, put_shown};
 use crate::source::Source;
 use crate::status::Status;
+use crate::usage_faults::{put_usage, word_at};
 use crate::words::source_of;
+use dump_reading::DumpWhy;
 use pw_lists::{Items, Memory, Text, append_decimal};
 use std::alloc::Global;
 use system_files::{FileWhy, why_words};
+use word_hints::shell_hint;
 
 /// The commands in words.
 pub(crate) fn usage_text() -> &'static [u8]
@@ -24,24 +30,6 @@ pub(crate) fn usage_text() -> &'static [u8]
        \x20      LIST has lines `FRAME GAIN`; TEXT is what `pipegraph dump` prints;\n\
        \x20      VALUES is A, A|B, MIN..MAX or MIN..MAX/STEP;\n\
        \x20      `-` is standard input or output\n"
-}
-
-// The version, and where the manual is.
-fn version_said() -> &'static [u8]
-    ensures { result.now ≡ version_said }
-{
-    b"version 0.1; the manual: man pipegraph-pods where it is installed, and \
-      man -l docs/pipegraph-pods.1"
-}
-
-// The word of a command line with this index; nothing where there is none.
-fn word_at(words: &[String], index: u32) -> &[u8]
-    ensures { result.now ≡ word (map string_bytes words.now) index }
-{
-    match words.get(index as usize) {
-        Some(word) => word.as_bytes(),
-        None => b"".as_slice(),
-    }
 }
 
 // What is wrong with the file that a word names.
@@ -69,38 +57,6 @@ fn put_refused(
     text.extend(why_words(reason))
 }
 
-// Whether the version is asked for, which is no command.
-fn asks_version(words: &[String], index: u32) -> bool
-    ensures { result ≡ asks_version (map string_bytes words.now) index }
-{
-    index == 0 && word_at(words, 0) == b"--version".as_slice()
-}
-
-// A word at fault, or one that is missing.
-fn put_word_fault(text: &mut Text, words: &[String], index: u32) -> Result<(), Memory>
-    ensures { OnOk result (text.new ≡ text.old
-        ++ word_fault (map string_bytes words.now) index) }
-{
-    if (index as usize) < words.len() {
-        text.extend(b"this word is wrong here: ")?;
-        put_shown(text, word_at(words, index))
-    } else {
-        text.extend(b"a word is missing")
-    }
-}
-
-// A word at fault, or the version where it is asked for.
-fn put_usage(text: &mut Text, words: &[String], index: u32) -> Result<(), Memory>
-    ensures { OnOk result (text.new ≡ text.old
-        ++ usage_fault (map string_bytes words.now) index) }
-{
-    if asks_version(words, index) {
-        text.extend(version_said())
-    } else {
-        put_word_fault(text, words, index)
-    }
-}
-
 // More than a POD may have, by what was read.
 fn too_long_said(source: Option<Source>) -> &'static [u8]
     ensures { result.now ≡ too_long_said source }
@@ -113,23 +69,64 @@ fn too_long_said(source: Option<Source>) -> &'static [u8]
     }
 }
 
-// What is wrong with a line of what was read.
-fn put_line_fault(
-    text: &mut Text,
-    words: &[String],
-    number: u64,
-    why: &[u8],
-    line: &[u8],
-) -> Result<(), Memory>
+// A line of what was read that is at fault, up to what is wrong with it.
+fn put_line_head(text: &mut Text, words: &[String], number: u64, line: &[u8]) -> Result<(), Memory>
     ensures { OnOk result (text.new ≡ text.old
-        ++ line_fault (map string_bytes words.now) number why.now line.now) }
+        ++ line_fault (map string_bytes words.now) number line.now []) }
 {
     put_at(text, words, 1, b"line ")?;
     append_decimal(text, number)?;
     text.extend(b": ")?;
     put_line(text, line)?;
-    text.extend(b": ")?;
-    text.extend(why)
+    text.extend(b": ")
+}
+
+// A line of a list that is at fault.
+fn put_list_fault(
+    text: &mut Text,
+    words: &[String],
+    number: u64,
+    why: ListWhy,
+    line: &[u8],
+) -> Result<(), Memory>
+    ensures { OnOk result (text.new ≡ text.old
+        ++ line_fault (map string_bytes words.now) number line.now (list_line why line.now)) }
+{
+    put_line_head(text, words, number, line)?;
+    put_list_line(text, why, line)
+}
+
+// A line of a text that is at fault.
+fn put_dump_fault(
+    text: &mut Text,
+    words: &[String],
+    number: u64,
+    why: DumpWhy,
+    line: &[u8],
+) -> Result<(), Memory>
+    ensures { OnOk result (text.new ≡ text.old
+        ++ line_fault (map string_bytes words.now) number line.now (dump_line why line.now)) }
+{
+    put_line_head(text, words, number, line)?;
+    put_dump_line(text, why, line)
+}
+
+// The sign of the shell in the name that a word is.
+fn put_hint(text: &mut Text, words: &[String], place: u32) -> Result<(), Memory>
+    ensures { OnOk result (text.new ≡ text.old
+        ++ shell_hint (word (map string_bytes words.now) place)) }
+{
+    text.extend(shell_hint(word_at(words, place)))
+}
+
+// A file that is not there.
+fn put_absent(text: &mut Text, words: &[String], place: u32) -> Result<(), Memory>
+    ensures { OnOk result (text.new ≡ text.old ++ at_word (map string_bytes words.now) place
+        (absent_said (word (map string_bytes words.now) place))) }
+{
+    put_at(text, words, place, b"there is no such file")?;
+    put_hint(text, words, place)?;
+    Ok(())
 }
 
 // What is wrong, without what is before and after it.
@@ -146,17 +143,13 @@ fn put_fault(
     match *status {
         Status::Ok => Ok(()),
         Status::Usage { word } => put_usage(text, words, word),
-        Status::List { line: number, why } => {
-            put_line_fault(text, words, number, why_text(why), line)
-        }
-        Status::Text { line: number, why } => {
-            put_line_fault(text, words, number, dump_why_text(why), line)
-        }
+        Status::List { line: number, why } => { put_list_fault(text, words, number, why, line) }
+        Status::Text { line: number, why } => { put_dump_fault(text, words, number, why, line) }
         Status::TooLong => {
             let read = source_of(word_at(words, 0));
             put_at(text, words, 1, too_long_said(read))
         }
-        Status::Absent { place } => put_at(text, words, place, b"there is no such file"),
+        Status::Absent { place } => put_absent(text, words, place),
         Status::ReadFault { place } => {
             put_refused(text, words, place, b"it cannot be read", reason)
         }

@@ -15,14 +15,16 @@ use Rattle.graph_pictures.specs.StatusText.{status_number}
 use Rattle.graph_pictures.specs.Words.{request_of}
 
 -- PRINTED: the number is that of a status, which the output follows; what the files hold stays; and
--- the sentence is that of the status, with the reason that the files tell of a load that failed
+-- the sentence is that of the status, with the name for which a line of a trace was refused, and
+-- the reason that the files tell of a load that failed
 pub record HasPrinted (words : Words) (before now : Outside) (reason : Option FileWhy) (code : ℕ)
     (sentence : List ℕ) : Type 0 where
   pub status : Status
+  pub stranger : List ℕ
   pub code_of : code ≡ status_number status
-  pub told : IsTold statuses (IsAnswered words) before now status
+  pub told : IsTold statuses (IsAnswered stranger words) before now status
   pub cause : Caused statuses before now status
   pub usage : IsUsage statuses (request_of words) status
-  pub complete : IsComplete statuses (IsAnswered words) before now status
+  pub complete : IsComplete statuses (IsAnswered stranger words) before now status
   pub keeps : KeepsFiles before now
-  pub sentence_of : sentence ≡ explained words status reason
+  pub sentence_of : sentence ≡ explained words status stranger reason

@@ -2,7 +2,7 @@
 
 use graph_pictures::{explain, print_picture};
 use program_exit::{Done, Utility};
-use pw_lists::{Memory, Text};
+use pw_lists::{Items, Memory, Text};
 use pw_outside::{Files, Sink};
 use std::alloc::Global;
 use system_files::{TellsWhy, Unread};
@@ -31,8 +31,9 @@ impl Utility for Pictures {
         mut files: F,
         mut out: O,
     ) -> Done<F, O, ()> {
-        let status = print_picture(alloc, words, &mut files, &mut out);
-        let sentence = explain(alloc, words, status, files.why());
+        let mut stranger = Items::new(alloc);
+        let status = print_picture(alloc, words, &mut files, &mut out, &mut stranger);
+        let sentence = explain(alloc, words, status, stranger.as_slice(), files.why());
         Done {
             code: status.number(),
             files,

@@ -42,8 +42,8 @@ fn expect<R: AllocGlobal + Abort>(
     let mut files = SureFiles::new(alloc)?;
     files.add_file(alloc, &text(alloc, "s")?, script.as_bytes())?;
     files.add_file(alloc, &text(alloc, "t")?, trace.as_bytes())?;
-    let mut out = SureSink::new(alloc)?;
-    let ended = print_picture(alloc, words.as_slice(), &mut files, &mut out);
+    let (mut out, mut stranger) = (SureSink::new(alloc)?, Items::new(alloc));
+    let ended = print_picture(alloc, words.as_slice(), &mut files, &mut out, &mut stranger);
     assert!(rt; ended == status, "{line}");
     assert!(rt; out.bytes().as_slice() == wanted.as_bytes(), "{line}");
     Ok(())
@@ -244,8 +244,8 @@ fn expect_end_of<R: AllocGlobal + Abort>(
     let mut files = SureFiles::new(alloc)?;
     files.add_file(alloc, &text(alloc, "s")?, TWO.as_bytes())?;
     files.add_file(alloc, &text(alloc, "t")?, trace)?;
-    let mut out = SureSink::new(alloc)?;
-    let ended = print_picture(alloc, words.as_slice(), &mut files, &mut out);
+    let (mut out, mut stranger) = (SureSink::new(alloc)?, Items::new(alloc));
+    let ended = print_picture(alloc, words.as_slice(), &mut files, &mut out, &mut stranger);
     assert!(rt; ended == Status::Ok);
     assert!(rt; out.bytes().as_slice().ends_with(wanted));
     Ok(())
@@ -384,7 +384,7 @@ fn a_band_says_which_cycle_goes_on(rt: HostRuntime) -> Result<(), Fail> {
 #[test]
 fn the_whole_text_of_a_run_is_a_trace(rt: HostRuntime) -> Result<(), Fail> {
     let run = b"link a.out o.in 48000 1 2\nnolink a.out o.in loop\nunlink a.out o.in\n\
-        nounlink a.out o.in\nbegin 5\ntick 5 dummy\nwrote o 4\npeak p 9\nunused q\n";
+        nounlink a.out o.in\nbegin 5\ntick 5 dummy\nwrote o 4\npeak a 9\nunused o\n";
     let wanted = b"<path class='t' d='M8 14v4'/>\n\
         <path class='t' d='M8 18v20'/><path class='l' d='M8 28m-4 0l4-4 4 4-4 4z'/>\n\
         </g></defs>\n\
@@ -421,6 +421,70 @@ fn a_trace_is_refused_at_its_first_bad_line(rt: HostRuntime) -> Result<(), Fail>
     Ok(())
 }
 
+// What words come to, where `s` holds `TWO` and `t` this text of a run: both outputs, and the number 2.
+fn refuses_trace<R: AllocGlobal + Abort>(
+    rt: &R,
+    line: &str,
+    trace: &str,
+    out: &str,
+    said: &str,
+) -> Result<(), Memory> {
+    let alloc = rt.alloc();
+    let words = words_of(alloc, line)?;
+    let mut files = SureFiles::new(alloc)?;
+    files.add_file(alloc, &text(alloc, "s")?, TWO.as_bytes())?;
+    files.add_file(alloc, &text(alloc, "t")?, trace.as_bytes())?;
+    let (given, mut told) = (SureSink::new(alloc)?, SureSink::new(alloc)?);
+    let exit = run_read(&Pictures, alloc, Ok(words), files, given, &mut told);
+    assert_eq!(rt; exit.code, 2);
+    assert!(rt; exit.out.bytes().as_slice() == out.as_bytes(), "{trace}");
+    assert!(rt; told.bytes().as_slice() == said.as_bytes(), "{trace}");
+    Ok(())
+}
+
+#[test]
+fn the_run_of_another_script_is_told_by_a_node(rt: HostRuntime) -> Result<(), Fail> {
+    let table = [
+        ("start 0 b\n", 1, "b"),
+        ("begin 0\nfinish 0 voice\n", 2, "voice"),
+        ("begin 0\ntick 0 voice a\n", 2, "voice"),
+        ("link b.out o.in 48000 1 2\n", 1, "b"),
+        (
+            "link a.out o.in 48000 1 2\nnolink a.out m.b 65539\n",
+            2,
+            "m",
+        ),
+        ("unlink a.out m.b\n", 1, "m"),
+        ("nounlink c.out m.b\n", 1, "c"),
+        ("wrote out 4\n", 1, "out"),
+        ("begin 0\nend 0\npeak p 9\n", 3, "p"),
+        ("unused \u{1b}[1m\n", 1, "\\x1b[1m"),
+    ];
+    for (trace, number, name) in table {
+        let alloc = rt.alloc();
+        let out = format!(in alloc; "line {number}\n")?;
+        let said = format!(in alloc;
+            "pipegraph-pictures: t:{number}: the run of another script: s has no node {name}\n"
+        )?;
+        refuses_trace(&rt, "graph s t", trace, &out, &said)?;
+        refuses_trace(&rt, "timeline s t", trace, &out, &said)?;
+    }
+    let rows = [
+        ("start 00 a\n", 1),
+        ("begin 0\ntick 0 a b\n", 2),
+        ("wrotes\n", 1),
+        ("start 0\n", 1),
+        ("illegal 3\n", 1),
+    ];
+    for (trace, number) in rows {
+        let alloc = rt.alloc();
+        let out = format!(in alloc; "line {number}\n")?;
+        let said = format!(in alloc; "pipegraph-pictures: t:{number}: no line of a run\n")?;
+        refuses_trace(&rt, "graph s t", trace, &out, &said)?;
+    }
+    Ok(())
+}
+
 // The sentence of a status, after the words of a line.
 fn expect_sentence<R: AllocGlobal + Abort>(
     rt: &R,
@@ -430,7 +494,7 @@ fn expect_sentence<R: AllocGlobal + Abort>(
 ) -> Result<(), Memory> {
     let alloc = rt.alloc();
     let words = words_of(alloc, line)?;
-    let sentence = explain(alloc, words.as_slice(), status, None)?;
+    let sentence = explain(alloc, words.as_slice(), status, &[], None)?;
     assert!(rt; sentence.as_slice() == wanted.as_bytes(), "{line}");
     Ok(())
 }
@@ -440,13 +504,6 @@ fn a_refusal_has_a_sentence_for_people(rt: HostRuntime) -> Result<(), Fail> {
     let why = WavFault::NotPcm16;
     let table = [
         ("graph s", Status::Ok, ""),
-        (
-            "draw s",
-            Status::Usage { word: 0 },
-            "usage: pipegraph-pictures graph SCRIPT [TRACE] | timeline SCRIPT TRACE [FROM TO] [VERDICT] | wave FILE\n\
-                version 0.1; the manual: man pipegraph-pictures where it is installed, and \
-                man -l docs/pipegraph-pictures.1\n",
-        ),
         (
             "graph s",
             Status::Script {
@@ -510,6 +567,75 @@ fn a_refusal_has_a_sentence_for_people(rt: HostRuntime) -> Result<(), Fail> {
     Ok(())
 }
 
+// The forms of the commands, the version, and where the manual is.
+const FORMS: &str =
+    "usage: pipegraph-pictures graph SCRIPT [TRACE] | timeline SCRIPT TRACE [FROM TO] [VERDICT] | wave FILE\n\
+    version 0.1; the manual: man pipegraph-pictures where it is installed, and \
+    man -l docs/pipegraph-pictures.1\n";
+
+#[test]
+fn a_wrong_command_asks_for_the_one_that_is_near(rt: HostRuntime) -> Result<(), Fail> {
+    let rows = [
+        ("", 0, ""),
+        ("--help", 0, ""),
+        ("-h", 0, ""),
+        ("--version", 0, ""),
+        ("graph", 1, ""),
+        ("graph s -t", 2, ""),
+        ("draw s", 0, "pipegraph-pictures: draw is no command\n"),
+        (
+            "gaph s",
+            0,
+            "pipegraph-pictures: gaph is no command; did you mean: pipegraph-pictures graph?\n",
+        ),
+        (
+            "Wave w",
+            0,
+            "pipegraph-pictures: Wave is no command; did you mean: pipegraph-pictures wave?\n",
+        ),
+        (
+            "timelein s t",
+            0,
+            "pipegraph-pictures: timelein is no command; did you mean: pipegraph-pictures timeline?\n",
+        ),
+        (
+            "\u{1b}[1m",
+            0,
+            "pipegraph-pictures: \\x1b[1m is no command\n",
+        ),
+    ];
+    for (line, word, said) in rows {
+        let wanted = format!(in rt.alloc(); "{said}{FORMS}")?;
+        expect_sentence(&rt, line, Status::Usage { word }, &wanted)?;
+    }
+    Ok(())
+}
+
+#[test]
+fn a_sign_of_the_shell_in_a_name_is_told(rt: HostRuntime) -> Result<(), Fail> {
+    let rows = [
+        ("'w.wav'", "quotes are a part of the name"),
+        ("\"w.wav", "quotes are a part of the name"),
+        ("~/w.wav", "~ is a part of the name, no folder"),
+        (
+            "$HOME/w.wav",
+            "$ is a part of the name, no value stands for it",
+        ),
+    ];
+    for (name, hint) in rows {
+        let alloc = rt.alloc();
+        let line = format!(in alloc; "wave {name}")?;
+        let wanted = format!(in alloc;
+            "pipegraph-pictures: cannot read {name}: there is no such file; {hint}\n"
+        )?;
+        expect_sentence(&rt, &line, Status::Absent { place: 1 }, &wanted)?;
+        let line = format!(in alloc; "graph s {name}")?;
+        let trace = Status::Absent { place: 4294967295 };
+        expect_sentence(&rt, &line, trace, &wanted)?;
+    }
+    Ok(())
+}
+
 #[test]
 fn a_refused_line_of_a_script_says_why(rt: HostRuntime) -> Result<(), Fail> {
     let rows = [
@@ -559,7 +685,7 @@ fn a_refused_line_of_a_script_says_why(rt: HostRuntime) -> Result<(), Fail> {
         wanted.extend(b"\n")?;
         let words = words_of(alloc, "graph s")?;
         let status = Status::Script { line: 7, why };
-        let sentence = explain(alloc, words.as_slice(), status, None)?;
+        let sentence = explain(alloc, words.as_slice(), status, &[], None)?;
         assert!(rt; sentence.as_slice() == wanted.as_slice(), "{said}");
     }
     Ok(())

@@ -19,8 +19,8 @@ fn expect_wave<R: AllocGlobal + Abort>(
     let words = words_of(alloc, "wave w")?;
     let mut files = SureFiles::new(alloc)?;
     files.add_file(alloc, &text(alloc, "w")?, bytes)?;
-    let mut out = SureSink::new(alloc)?;
-    let ended = print_picture(alloc, words.as_slice(), &mut files, &mut out);
+    let (mut out, mut stranger) = (SureSink::new(alloc)?, Items::new(alloc));
+    let ended = print_picture(alloc, words.as_slice(), &mut files, &mut out, &mut stranger);
     assert!(rt; ended == status);
     assert!(rt; out.bytes().as_slice() == wanted);
     Ok(())
@@ -120,9 +120,9 @@ fn each_channel_has_its_lane(rt: HostRuntime) -> Result<(), Fail> {
         data\x0c\0\0\0\x01\0\x02\0\x03\0\x04\0\x05\0\x06\0";
     let mut files = SureFiles::new(alloc)?;
     files.add_file(alloc, &text(alloc, "w")?, bytes.as_slice())?;
-    let mut out = SureSink::new(alloc)?;
+    let (mut out, mut stranger) = (SureSink::new(alloc)?, Items::new(alloc));
     let words = words_of(alloc, "wave w")?;
-    let ended = print_picture(alloc, words.as_slice(), &mut files, &mut out);
+    let ended = print_picture(alloc, words.as_slice(), &mut files, &mut out, &mut stranger);
     assert!(rt; ended == Status::Ok);
     let front =
         b"<svg xmlns='http://www.w3.org/2000/svg' version='1.1' width='1096' height='1860'>\n";
@@ -155,9 +155,9 @@ fn a_column_of_two_frames_goes_from_the_greater_to_the_less(rt: HostRuntime) -> 
     bytes.extend(b"\0\x40\0\xff")?;
     let mut files = SureFiles::new(alloc)?;
     files.add_file(alloc, &text(alloc, "w")?, bytes.as_slice())?;
-    let mut out = SureSink::new(alloc)?;
+    let (mut out, mut stranger) = (SureSink::new(alloc)?, Items::new(alloc));
     let words = words_of(alloc, "wave w")?;
-    let ended = print_picture(alloc, words.as_slice(), &mut files, &mut out);
+    let ended = print_picture(alloc, words.as_slice(), &mut files, &mut out, &mut stranger);
     assert!(rt; ended == Status::Ok);
     let wanted = b"<path d='M998 127h1v1h-1z'/>\n\
         <path d='M999 63h1v66h-1z'/>\n\

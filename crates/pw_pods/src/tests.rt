@@ -201,116 +201,68 @@ const USAGE: &str = "usage: pipegraph-pods gains LIST OUT\n\
 const VERSION: &str = "version 0.1; the manual: man pipegraph-pods where it is installed, and \
     man -l docs/pipegraph-pods.1";
 
+// What a sentence says of a place of a command line.
+const LIST: &str = "LIST is a file of lines `FRAME GAIN`, or - for standard input; \
+    a file has 1 to 255 bytes and does not begin with -";
+
+const TEXT: &str = "TEXT is a file that has what `pipegraph dump` prints, or - for standard \
+    input; a file has 1 to 255 bytes and does not begin with -";
+
+const OUT: &str = "OUT is a file, or - for standard output; \
+    a file has 1 to 255 bytes and does not begin with -";
+
+const RATE: &str = "after OUT comes rate, as in: format OUT rate 48000 channels 2";
+
+const VALUES: &str = "VALUES is A, A|B, MIN..MAX or MIN..MAX/STEP, of whole numbers up to \
+    2147483647 without a leading zero; MIN is at most MAX, and STEP at least 1";
+
+const CHANNELS: &str = "after the rate comes channels, as in: format OUT rate 48000 channels 2";
+
+const MANDATORY: &str = "after the channels comes mandatory, or nothing";
+
+// Words at fault at an index: the status, nothing stored or put, and this sentence with the forms.
+fn refuses<R: AllocGlobal + Abort>(
+    rt: &R,
+    line: &str,
+    word: u32,
+    said: &str,
+) -> Result<(), Memory> {
+    let sentence = format!(in rt.alloc(); "pipegraph-pods: {said}\n{USAGE}")?;
+    let status = Status::Usage { word };
+    expect(rt, line, b"2 128", status, None, b"", &sentence)
+}
+
 #[test]
 fn words_are_refused_at_the_first_at_fault(rt: HostRuntime) -> Result<(), Fail> {
     let table = [
-        ("", 0, "a word is missing"),
-        ("gain s o", 0, "this word is wrong here: \"gain\""),
-        ("gains", 1, "a word is missing"),
+        ("", 0, "a command is missing"),
+        (
+            "gain s o",
+            0,
+            "\"gain\" is no command; did you mean: pipegraph-pods gains?",
+        ),
+        (
+            "Pod s o",
+            0,
+            "\"Pod\" is no command; did you mean: pipegraph-pods pod?",
+        ),
+        ("from o rate 1", 0, "\"from\" is no command"),
+        (
+            "fromat o rate 1",
+            0,
+            "\"fromat\" is no command; did you mean: pipegraph-pods format?",
+        ),
+        (
+            "s.gains o",
+            0,
+            "\"s.gains\" is no command; did you mean: pipegraph-pods gains?",
+        ),
+        ("\u{1b}[1m", 0, "\"\\x1b[1m\" is no command"),
         ("--version", 0, VERSION),
         ("--version x", 0, VERSION),
-        (
-            "gains --version o",
-            1,
-            "this word is wrong here: \"--version\"",
-        ),
-        ("gains --help o", 1, "this word is wrong here: \"--help\""),
-        ("gains s", 2, "a word is missing"),
-        ("gains s -o", 2, "this word is wrong here: \"-o\""),
-        ("gains s o t", 3, "this word is wrong here: \"t\""),
-        ("pod", 1, "a word is missing"),
-        ("pod s", 2, "a word is missing"),
-        ("pod s o t", 3, "this word is wrong here: \"t\""),
-        (
-            "pod s o \u{1b}[1m\u{9b}1m\\n",
-            3,
-            "this word is wrong here: \"\\x1b[1m\\xc2\\x9b1m\\\\n\"",
-        ),
     ];
     for (line, word, said) in table {
-        let sentence = format!(in rt.alloc(); "pipegraph-pods: {said}\n{USAGE}")?;
-        expect(
-            &rt,
-            line,
-            b"2 128",
-            Status::Usage { word },
-            None,
-            b"",
-            &sentence,
-        )?;
-    }
-    let formats = [
-        ("format", 1, "a word is missing"),
-        ("format -o", 1, "this word is wrong here: \"-o\""),
-        (
-            "format o channels 1",
-            2,
-            "this word is wrong here: \"channels\"",
-        ),
-        ("format o rate", 3, "a word is missing"),
-        (
-            "format o rate 44100|",
-            3,
-            "this word is wrong here: \"44100|\"",
-        ),
-        ("format o rate 2..1", 3, "this word is wrong here: \"2..1\""),
-        (
-            "format o rate 1..2/0",
-            3,
-            "this word is wrong here: \"1..2/0\"",
-        ),
-        (
-            "format o rate 1...2",
-            3,
-            "this word is wrong here: \"1...2\"",
-        ),
-        (
-            "format o rate 1..2/3/4",
-            3,
-            "this word is wrong here: \"1..2/3/4\"",
-        ),
-        (
-            "format o rate 2147483648",
-            3,
-            "this word is wrong here: \"2147483648\"",
-        ),
-        (
-            "format o rate 1 rate 2",
-            4,
-            "this word is wrong here: \"rate\"",
-        ),
-        (
-            "format o rate 1 channels x",
-            5,
-            "this word is wrong here: \"x\"",
-        ),
-        (
-            "format o rate 1 channels 2 x",
-            6,
-            "this word is wrong here: \"x\"",
-        ),
-        (
-            "format o rate 1 channels 2 mandatory",
-            7,
-            "a word is missing",
-        ),
-        (
-            "format o rate 1 channels 2 mandatory x",
-            7,
-            "this word is wrong here: \"x\"",
-        ),
-        (
-            "format o rate 1 channels 2 mandatory rate x",
-            8,
-            "this word is wrong here: \"x\"",
-        ),
-    ];
-    for (line, word, said) in formats {
-        let sentence = format!(in rt.alloc(); "pipegraph-pods: {said}\n{USAGE}")?;
-        expect(&rt, line, b"", Status::Usage { word }, None, b"", &sentence)?;
-    }
-    for line in ["--help", "-h"] {
-        expect(&rt, line, b"", Status::Ok, None, USAGE.as_bytes(), "")?;
+        refuses(&rt, line, word, said)?;
     }
     let absent = "pipegraph-pods: \"t\": there is no such file\n";
     expect(
@@ -322,6 +274,162 @@ fn words_are_refused_at_the_first_at_fault(rt: HostRuntime) -> Result<(), Fail> 
         b"",
         absent,
     )?;
+    for line in ["--help", "-h"] {
+        expect(&rt, line, b"", Status::Ok, None, USAGE.as_bytes(), "")?;
+    }
+    Ok(())
+}
+
+#[test]
+fn a_missing_word_says_what_comes_there(rt: HostRuntime) -> Result<(), Fail> {
+    let table = [
+        ("gains", 1, "gains", LIST),
+        ("gains s", 2, "s", OUT),
+        ("pod", 1, "pod", TEXT),
+        ("pod s", 2, "s", OUT),
+        ("format", 1, "format", OUT),
+        ("format o", 2, "o", RATE),
+        ("format o rate", 3, "rate", VALUES),
+        ("format o rate 48000", 4, "48000", CHANNELS),
+        ("format o rate 48000 channels", 5, "channels", VALUES),
+        (
+            "format o rate 1 channels 2 mandatory",
+            7,
+            "mandatory",
+            "KEY is rate or channels",
+        ),
+    ];
+    for (line, word, before, rule) in table {
+        let said = format!(in rt.alloc(); "a word is missing after \"{before}\": {rule}")?;
+        refuses(&rt, line, word, &said)?;
+    }
+    Ok(())
+}
+
+#[test]
+fn a_wrong_word_says_what_comes_there(rt: HostRuntime) -> Result<(), Fail> {
+    let after_out = "no word comes after OUT";
+    let key = "KEY is rate or channels";
+    let table = [
+        ("gains --version o", 1, "--version", LIST, ""),
+        ("gains --help o", 1, "--help", LIST, ""),
+        ("gains s -o", 2, "-o", OUT, ""),
+        ("gains s o t", 3, "t", after_out, ""),
+        ("pod s o t", 3, "t", after_out, ""),
+        (
+            "pod s o \u{1b}[1m\u{9b}1m\\n",
+            3,
+            "\\x1b[1m\\xc2\\x9b1m\\\\n",
+            after_out,
+            "",
+        ),
+        ("pod -s o", 1, "-s", TEXT, ""),
+        ("format -o", 1, "-o", OUT, ""),
+        ("format o channels 1", 2, "channels", RATE, ""),
+        (
+            "format o rates 1",
+            2,
+            "rates",
+            RATE,
+            "; did you mean: rate?",
+        ),
+        ("format o rate 44100|", 3, "44100|", VALUES, ""),
+        ("format o rate 2..1", 3, "2..1", VALUES, ""),
+        ("format o rate 1..2/0", 3, "1..2/0", VALUES, ""),
+        ("format o rate 1...2", 3, "1...2", VALUES, ""),
+        ("format o rate 1..2/3/4", 3, "1..2/3/4", VALUES, ""),
+        ("format o rate 2147483648", 3, "2147483648", VALUES, ""),
+        ("format o rate 1 rate 2", 4, "rate", CHANNELS, ""),
+        (
+            "format o rate 1 chanels 2",
+            4,
+            "chanels",
+            CHANNELS,
+            "; did you mean: channels?",
+        ),
+        ("format o rate 1 channels x", 5, "x", VALUES, ""),
+        ("format o rate 1 channels 2 x", 6, "x", MANDATORY, ""),
+        (
+            "format o rate 1 channels 2 mandatroy rate",
+            6,
+            "mandatroy",
+            MANDATORY,
+            "; did you mean: mandatory?",
+        ),
+        ("format o rate 1 channels 2 mandatory x", 7, "x", key, ""),
+        (
+            "format o rate 1 channels 2 mandatory channel",
+            7,
+            "channel",
+            key,
+            "; did you mean: channels?",
+        ),
+        (
+            "format o rate 1 channels 2 mandatory rate x",
+            8,
+            "x",
+            "no word comes after KEY",
+            "",
+        ),
+    ];
+    for (line, word, shown, rule, meant) in table {
+        let said = format!(in rt.alloc(); "\"{shown}\" is wrong here: {rule}{meant}")?;
+        refuses(&rt, line, word, &said)?;
+    }
+    Ok(())
+}
+
+#[test]
+fn a_sign_of_the_shell_in_a_name_is_told(rt: HostRuntime) -> Result<(), Fail> {
+    let rows = [
+        ("'s'", "quotes are a part of the name"),
+        ("\"s", "quotes are a part of the name"),
+        ("~/s", "~ is a part of the name, no folder"),
+        ("$HOME/s", "$ is a part of the name, no value stands for it"),
+    ];
+    for (name, hint) in rows {
+        let alloc = rt.alloc();
+        let line = format!(in alloc; "gains {name} o")?;
+        let said = format!(in alloc;
+            "pipegraph-pods: \"{name}\": there is no such file; {hint}\n"
+        )?;
+        let absent = Status::Absent { place: 1 };
+        expect(&rt, &line, b"", absent, None, b"", &said)?;
+    }
+    Ok(())
+}
+
+#[test]
+fn a_line_that_begins_as_another_file_says_so(rt: HostRuntime) -> Result<(), Fail> {
+    let mark = "the line begins with a UTF-8 mark: save the file without it";
+    let riff = "a line has two words, FRAME GAIN, and a comment its own line; \
+        the line begins with RIFF, as a WAV file does";
+    let table = [
+        ("\u{feff}2 128\n", ListWhy::Frame, "\u{feff}2 128", mark),
+        (
+            "\u{feff}# half as loud\n",
+            ListWhy::Words,
+            "\u{feff}# half as loud",
+            mark,
+        ),
+        ("RIFF4\u{1}\n", ListWhy::Words, "RIFF4\\x01", riff),
+    ];
+    for (list, why, shown, said) in table {
+        let sentence = format!(in rt.alloc();
+            "pipegraph-pods: \"s\": line 1: \"{shown}\": {said}\n"
+        )?;
+        let bytes = list.as_bytes();
+        expect(&rt, "gains s o", bytes, at(1, why), None, b"", &sentence)?;
+    }
+    let sentence = format!(in rt.alloc();
+        "pipegraph-pods: \"s\": line 1: \"\u{feff}none\": {mark}\n"
+    )?;
+    let status = Status::Text {
+        line: 1,
+        why: DumpWhy::Words,
+    };
+    let dump = "\u{feff}none\n".as_bytes();
+    expect(&rt, "pod s o", dump, status, None, b"", &sentence)?;
     Ok(())
 }
 
@@ -402,6 +510,9 @@ fn a_text_is_refused_at_its_first_line_at_fault(rt: HostRuntime) -> Result<(), F
     let unended = "the line is not ended by a line feed";
     let indent = "a line is indented by two spaces for each level";
     let words = "these are no words that a dump has here";
+    let none = "these are no words that a dump has here; did you mean: none?";
+    let two = "these are no words that a dump has here; did you mean: id or int?";
+    let rectangle = "these are no words that a dump has here; did you mean: rectangle?";
     let child = "an array or a choice holds values of its child type";
     let more = "the text goes on behind its value";
     let nested = "struct 1\n  struct 1\n    struct 1\n      struct 1\n        struct 1\n\
@@ -424,7 +535,10 @@ fn a_text_is_refused_at_its_first_line_at_fault(rt: HostRuntime) -> Result<(), F
         ("struct 1\nnone\n", 2, DumpWhy::Indent, "none", indent),
         ("struct 1\n   none\n", 2, DumpWhy::Indent, "   none", indent),
         (" none\n", 1, DumpWhy::Indent, " none", indent),
-        ("None\n", 1, DumpWhy::Words, "None", words),
+        ("None\n", 1, DumpWhy::Words, "None", none),
+        ("ind 5\n", 1, DumpWhy::Words, "ind 5", two),
+        ("rectagl 1x2\n", 1, DumpWhy::Words, "rectagl 1x2", rectangle),
+        ("id -5\n", 1, DumpWhy::Words, "id -5", words),
         ("none \n", 1, DumpWhy::Words, "none ", words),
         ("int  5\n", 1, DumpWhy::Words, "int  5", words),
         ("int -0\n", 1, DumpWhy::Words, "int -0", words),

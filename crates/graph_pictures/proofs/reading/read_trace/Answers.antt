@@ -8,10 +8,10 @@ use Rattle.graph_pictures.proofs.reading.read_trace.Goals as goal
 pub returns-in-Err-clause-told : goal.returns-in-Err-clause-told
 returns-in-Err-clause-told g c = λ h.
     made_stops (IsTraceLoad c.args.name.now (names_in (g.F.Files.held c.args.files.now)))
-    (DrawsTrace c.args.cycles c.args.at c.args.script.now) c.in-Err.status (c.in-Err.ensures.told h)
+    (DrawsTrace c.args.cycles c.args.at c.args.stranger.now c.args.script.now) c.in-Err.status (c.in-Err.ensures.told h)
 
 pub returns-in-Ok-clause-told : goal.returns-in-Ok-clause-told
 returns-in-Ok-clause-told g c = λ h.
     made_goes (IsTraceLoad c.args.name.now (names_in (g.F.Files.held c.args.files.now)))
-    (DrawsTrace c.args.cycles c.args.at c.args.script.now) Anything c.in-Ok.bytes c.as_slice.result.now c.drawn_trace.result (c.in-Ok.ensures.told h) c.as_slice.ensures
+    (DrawsTrace c.args.cycles c.args.at c.drawn_trace.new.stranger c.args.script.now) Anything c.in-Ok.bytes c.as_slice.result.now c.drawn_trace.result (c.in-Ok.ensures.told h) c.as_slice.ensures
     c.drawn_trace.ensures.drawn c.drawn_trace.ensures.cause

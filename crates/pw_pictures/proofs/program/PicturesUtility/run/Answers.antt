@@ -1,5 +1,6 @@
 -- What was printed, with its sentence.
-use Rattle.std.proofs.Common.{refl, map, string_bytes}
+use Rattle.std.proofs.Common.{◌≡◌, ℕ, List, refl, subst, map, string_bytes}
+use Rattle.std.specs.Prelude.{IfOk}
 use Rattle.graph_pictures.specs.Sentences.{explained}
 use Rattle.pw_pictures.proofs.program.PicturesUtility.run.Goals as goal
 
@@ -7,9 +8,10 @@ pub returns : goal.returns
 returns g c =
     let printed = c.print_picture-status in
     record {
-      sentence = explained (map string_bytes c.args.words.now) printed.result (g.F.TellsWhy.why printed.new.files);
+      sentence = explained (map string_bytes c.args.words.now) printed.result printed.new.stranger (g.F.TellsWhy.why printed.new.files);
       says = record {
         status = printed.result;
+        stranger = printed.new.stranger;
         code_of = c.number.ensures;
         told = printed.ensures.told;
         cause = printed.ensures.cause;
@@ -18,5 +20,7 @@ returns g c =
         keeps = record { held = printed.ensures.held; stores = printed.ensures.stores };
         sentence_of = refl;
       };
-      whole = rw c.why.ensures at c.explain-sentence.ensures;
+      whole = subst (λ (s : List ℕ). IfOk c.explain-sentence.result
+          (λ text. text ≡ explained (map string_bytes c.args.words.now) printed.result s (g.F.TellsWhy.why printed.new.files)))
+          c.as_slice.ensures (rw c.why.ensures at c.explain-sentence.ensures);
     }

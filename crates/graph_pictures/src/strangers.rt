@@ -1,0 +1,130 @@
+//! The node that a line of a run names and its script does not have.
+ghost use Rattle.std.specs.Prelude.{◌≡◌, ◌-◌, [], IfOk, option_copied, slice_index_or};
+ghost use Rattle.cycle_trace.specs.TraceReading.{trace_lines};
+ghost use Rattle.graph_pictures.specs.LineWords.{begins, is_of_link, is_of_end, is_of_node};
+ghost use Rattle.graph_pictures.specs.Strangers.{node_part, has_node, missed_at, stranger, stranger_name};
+
+use crate::refusals::word_at;
+use crate::trace_text::next_line;
+use pw_lists::{Items, Memory, Text, next_piece, place_of_name};
+use std::alloc::Global;
+
+/// Whether a line begins with a word.
+pub(crate) fn begins(line: &[u8], word: &[u8]) -> bool
+    ensures { result ≡ begins line.now word.now }
+{
+    line.starts_with(word)
+}
+
+/// Whether a line says what became of a link.
+pub(crate) fn is_of_link(line: &[u8]) -> bool
+    ensures { result ≡ is_of_link line.now }
+{
+    begins(line, b"link ")
+        || begins(line, b"nolink ")
+        || begins(line, b"unlink ")
+        || begins(line, b"nounlink ")
+}
+
+/// Whether a line says what a sink or a meter has.
+pub(crate) fn is_of_end(line: &[u8]) -> bool
+    ensures { result ≡ is_of_end line.now }
+{
+    begins(line, b"wrote ") || begins(line, b"peak ") || begins(line, b"unused ")
+}
+
+// Whether a line says an event that names nodes.
+fn is_of_node(line: &[u8]) -> bool
+    ensures { result ≡ is_of_node line.now }
+{
+    begins(line, b"start ") || begins(line, b"finish ") || begins(line, b"tick ")
+}
+
+// The node of a word: what is before its first dot.
+fn node_part(word: &[u8]) -> &[u8]
+    ensures { result.now ≡ node_part word.now }
+{
+    let (node, _port) = next_piece(word, b'.');
+    node
+}
+
+// Whether a script with nodes of these names has one.
+fn has_node(names: &[Text], name: &[u8]) -> bool
+    ensures { result ≡ has_node names.now name.now }
+{
+    name == b"".as_slice() || name == b"dummy".as_slice() || place_of_name(names, name).is_some()
+}
+
+// The node of the word at an index of a line, if the script does not have it.
+fn missed_at<'a>(names: &[Text], line: &'a [u8], index: u32) -> Option<&'a [u8]>
+    ensures { option_copied result ≡ missed_at names.now line.now index }
+{
+    let name = node_part(word_at(line, index));
+    if has_node(names, name) {
+        None
+    } else {
+        Some(name)
+    }
+}
+
+/// The first node that a line names and a script with nodes of these names does not have, if there
+/// is one: of a link both its nodes are looked at, of an event the first. Takes no memory; time in
+/// proportion to the line and the names.
+#[tactic(auto, unfolding(crate::specs::Strangers::stranger))]
+pub(crate) fn stranger<'a>(names: &[Text], line: &'a [u8]) -> Option<&'a [u8]>
+    ensures { option_copied result ≡ stranger names.now line.now }
+{
+    if is_of_link(line) {
+        match missed_at(names, line, 1) {
+            Some(name) => Some(name),
+            None => missed_at(names, line, 2),
+        }
+    } else if is_of_end(line) {
+        missed_at(names, line, 1)
+    } else if is_of_node(line) {
+        missed_at(names, line, 2)
+    } else {
+        None
+    }
+}
+
+// Its name; nothing where there is none.
+fn stranger_name(alloc: Global, names: &[Text], line: &[u8]) -> Result<Text, Memory>
+    ensures { IfOk result (λ name. name ≡ stranger_name names.now line.now) }
+{
+    match stranger(names, line) {
+        None => Ok(Items::new(alloc)),
+        Some(name) => Items::from_slice(alloc, name),
+    }
+}
+
+// The line of a text, counted from 1; nothing where it has fewer.
+fn line_at(text: &[u8], number: u64) -> &[u8]
+    ensures { result.now ≡ slice_index_or (trace_lines text.now) (number - 1) [] }
+{
+    let mut rest = text;
+    for _ in 1..number {
+        match next_line(rest) {
+            None => return b"".as_slice(),
+            Some((_line, more)) => rest = more,
+        }
+    }
+    match next_line(rest) {
+        None => b"".as_slice(),
+        Some((line, _more)) => line,
+    }
+}
+
+/// The name of the stranger in the line of this number, counted from 1, of a run's text; nothing
+/// where it has none. Takes memory for the name.
+pub(crate) fn stranger_in(
+    alloc: Global,
+    names: &[Text],
+    text: &[u8],
+    number: u64,
+) -> Result<Text, Memory>
+    ensures { IfOk result (λ name. name ≡ stranger_name names.now
+        (slice_index_or (trace_lines text.now) (number - 1) [])) }
+{
+    stranger_name(alloc, names, line_at(text, number))
+}

@@ -1,0 +1,3 @@
+pub mod Nearness
+pub mod Guesses
+pub mod ShellSigns
