@@ -12,6 +12,7 @@ ghost use Rattle.data_loop.specs.EpochStates.{AreLeft};
 
 use crate::did::Did;
 use crate::epoch_context::EpochContext;
+use crate::guesses::guess_in;
 use crate::member::Member;
 use crate::own_pools::OwnPools;
 use crate::playing::play;
@@ -32,14 +33,16 @@ use pw_outside::Gate;
 pub(crate) struct EpochState {
     pub seat: LoopSeat,
     pub members: Items<Member>,
+    /// Where the follower of each node may be.
+    pub guesses: Items<u8>,
     pub driver: Items<Member>,
     pub restarts: Items<Option<u32>>,
     pub own: OwnPools,
     pub progress: Progress,
 }
 
-// The index of the member of a node.
-fn index_of(members: &[Member], node: u32) -> Option<usize>
+// The index of the member of a node, by a look at each.
+fn find(members: &[Member], node: u32) -> Option<usize>
     ensures some { IfSome result (λ i. (i < length members.now)
         × ((slice_index_or members.now i no_member).node ≡ node)) }
     ensures none { IfNone result (All (λ m. m.node ≢ node) members.now) }
@@ -50,6 +53,19 @@ fn index_of(members: &[Member], node: u32) -> Option<usize>
         }
     }
     None
+}
+
+// The index of the member of a node: where it is guessed, or else found.
+fn index_of(members: &[Member], guesses: &[u8], node: u32) -> Option<usize>
+    ensures some { IfSome result (λ i. (i < length members.now)
+        × ((slice_index_or members.now i no_member).node ≡ node)) }
+    ensures none { IfNone result (All (λ m. m.node ≢ node) members.now) }
+{
+    let guess = guess_in(guesses, node);
+    if guess < members.len() && members[guess].node == node {
+        return Some(guess);
+    }
+    find(members, node)
 }
 
 impl EpochState {
@@ -180,7 +196,7 @@ impl EpochState {
         ensures few { length found.new.items ≤ length self.old.members }
         ensures capacity { vec_capacity found.new ≡ vec_capacity found.old }
     {
-        let index = match index_of(self.members.as_slice(), node) {
+        let index = match index_of(self.members.as_slice(), self.guesses.as_slice(), node) {
             Some(index) => index,
             None => return Did::Idle,
         };

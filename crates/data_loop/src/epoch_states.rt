@@ -7,6 +7,7 @@ ghost use Rattle.data_loop.specs.PlanPools.{pools_in};
 ghost use Rattle.data_loop.specs.EpochStateParts.{IsFirstEpochState, AreFirstEpochStates};
 
 use crate::epoch_state::EpochState;
+use crate::guesses::guesses_of;
 use crate::members::members_by;
 use crate::own_pools::pools_among;
 use crate::progress::Progress;
@@ -54,11 +55,13 @@ fn epoch_state_of(
     let pools = pools[epoch].as_slice();
     let epoch = &plan.epochs.as_slice()[epoch];
     let members = members_by(alloc, plan, epoch, pools, nodes, false)?;
+    let guesses = guesses_of(alloc, members.as_slice())?;
     let driver = members_by(alloc, plan, epoch, pools, nodes, true)?;
     let own = pools_among(alloc, &epoch.shape, nodes, pools)?;
     Ok(EpochState {
         seat,
         members,
+        guesses,
         driver,
         restarts,
         own,

@@ -11,6 +11,7 @@ mod epoch_state;
 mod epoch_states;
 mod gathering;
 mod giving;
+mod guesses;
 mod inputs;
 mod loop_driver;
 mod loop_epochs;
