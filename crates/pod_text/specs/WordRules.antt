@@ -36,7 +36,8 @@ format_rule i =
     if i == 1 then out_rule
     else (if i == 2 then codes "after OUT comes rate, as in: format OUT rate 48000 channels 2"
     else (if i == 3 then values_rule
-    else (if i == 4 then codes "after the rate comes channels, as in: format OUT rate 48000 channels 2"
+    else (if i == 4
+    then codes "after the rate comes channels, as in: format OUT rate 48000 channels 2"
     else (if i == 5 then values_rule
     else (if i == 6 then codes "after the channels comes mandatory, or nothing"
     else (if i == 7 then codes "KEY is rate or channels"

@@ -421,7 +421,8 @@ fn a_trace_is_refused_at_its_first_bad_line(rt: HostRuntime) -> Result<(), Fail>
     Ok(())
 }
 
-// What words come to, where `s` holds `TWO` and `t` this text of a run: both outputs, and the number 2.
+// What words come to, where `s` holds `TWO` and `t` this text of a run: both outputs, and the
+// number 2.
 fn refuses_trace<R: AllocGlobal + Abort>(
     rt: &R,
     line: &str,

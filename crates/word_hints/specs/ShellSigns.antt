@@ -1,6 +1,6 @@
--- What is said of a file's name with a sign of the shell in it, where there is no such file. Source:
--- POSIX, "Shell Command Language", 2.2 (quotes), 2.6.1 (tilde) and 2.6.2 (parameters); the words are
--- this project's own.
+-- What is said of a file's name with a sign of the shell in it, where there is no such file.
+-- Source: POSIX, "Shell Command Language", 2.2 (quotes), 2.6.1 (tilde) and 2.6.2 (parameters); the
+-- words are this project's own.
 use Rattle.std.specs.Prelude.{ℕ, ◌==◌, ◌||◌, Bool, List, [], codes, nat_eq, if◌then◌else◌}
 use Rattle.std.specs.List.{list_any, starts_with}
 

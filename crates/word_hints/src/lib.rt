@@ -1,5 +1,5 @@
-//! What is said of a word that is meant otherwise: `put_question` asks for the names that are near a
-//! word, `shell_hint` says which sign of the shell is a part of a file's name.
+//! What is said of a word that is meant otherwise: `put_question` asks for the names that are near
+//! a word, `shell_hint` says which sign of the shell is a part of a file's name.
 #![tactic(auto)]
 
 mod guesses;

@@ -16,8 +16,8 @@ fn has_dollar(name: &[u8]) -> bool
 }
 
 /// What is said behind a sentence of a file that is not there: that a sign which a shell takes
-/// otherwise is a part of its name, quotes before `~` at its beginning, and that before `$`; nothing
-/// where none is. Takes no memory; time linear in the name.
+/// otherwise is a part of its name, quotes before `~` at its beginning, and that before `$`;
+/// nothing where none is. Takes no memory; time linear in the name.
 pub fn shell_hint(name: &[u8]) -> &'static [u8]
     ensures { result.now ≡ shell_hint name.now }
 {
