@@ -22,6 +22,11 @@ abbrev pub IsLoad : {S : Type 0} → Statuses S → Names → ℕ → List ℕ �
 IsLoad statuses names place name limit long = Part statuses (place ∷ [])
     (λ outcome. outcome ≡ load_outcome statuses names place name limit long)
 
+-- a status that this load may end with, whether the files are reported or not
+abbrev pub IsLoadStop : {S : Type 0} → Statuses S → ℕ → S → S → Type 0
+IsLoadStop statuses place long status = (status ≡ statuses.absent place) ⊎ ((status ≡ long)
+    ⊎ ((status ≡ statuses.read_fault place) ⊎ (status ≡ statuses.memory)))
+
 -- WHAT COMES NEXT: an answer of the first part, then one of the next, by what the first gave
 pub data Binds {S T U : Type 0} (statuses : Statuses S) (P : Expected S T → Type 0)
     (next : T → Expected S U → Type 0) (e : Expected S U)

@@ -100,7 +100,7 @@ fn end_text<S: Ending, O: Sink>(alloc: Global, out: &mut O, text: &[u8]) -> S
 }
 
 /// Makes the stores of what was prepared in order, then puts its text, or puts the line of a
-/// status.
+/// status. What was prepared stays with the caller.
 ///
 /// Nothing is stored after a failed store, and nothing is put after a failed put. Lack of memory is
 /// the status where it ended the stores or the text, or where it kept a line from being put. Where
@@ -110,15 +110,15 @@ pub fn finish<S: Ending, F: Files, O: Sink>(
     alloc: Global,
     files: &mut F,
     out: &mut O,
-    made: Result<Work, S>,
+    made: &Result<Work, S>,
 ) -> S
-    requires { CanBeDelivered S.statuses made }
-    ensures finished { Finished S.statuses made (outside F.Files O.Sink files.old out.old)
+    requires { CanBeDelivered S.statuses made.now }
+    ensures finished { Finished S.statuses made.now (outside F.Files O.Sink files.old out.old)
         (outside F.Files O.Sink files.new out.new) result }
     ensures later { F.store_faults files.old ≤ F.store_faults files.new }
     ensures later_put { O.faults out.old ≤ O.faults out.new }
     ensures loads { F.load_faults files.new ≡ F.load_faults files.old }
-    ensures none { StoresNothing made → files.new ≡ files.old }
+    ensures none { StoresNothing made.now → files.new ≡ files.old }
 {
     match made {
         Err(status) => status.put_line(alloc, out),

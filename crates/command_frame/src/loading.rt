@@ -1,7 +1,7 @@
 //! A load of a command.
-ghost use Rattle.std.specs.Prelude.{◌≡◌, ◌≤◌, length};
+ghost use Rattle.std.specs.Prelude.{◌≡◌, ◌≤◌, length, IfErr};
 ghost use Rattle.command_frame.specs.declared.ending.End.TheVariants as E;
-ghost use Rattle.command_frame.specs.Allowed.{IsLoad};
+ghost use Rattle.command_frame.specs.Allowed.{IsLoad, IsLoadStop};
 ghost use Rattle.command_frame.specs.Ending.{CommandCause};
 ghost use Rattle.command_frame.specs.Preparing.{LoadsOnly, Tells};
 
@@ -25,6 +25,7 @@ pub fn load_step<S: Ending, F: Files>(
         (F.load_faults files.new) (F.store_faults files.old) (F.store_faults files.new) }
     ensures told { Tells S.statuses (F.held files.old)
         (λ names. IsLoad S.statuses names place name.now limit long) result }
+    ensures stops { IfErr result (IsLoadStop S.statuses place long) }
     ensures cause { CommandCause S.statuses (λ bytes. length bytes ≤ limit)
         (F.load_faults files.old) (F.load_faults files.new) result }
 {

@@ -75,5 +75,5 @@ pub fn run<S: Ending, Q, P: Program<S, Q>, F: Files, O: Sink>(
         (outside F.Files O.Sink files.new out.new) }
 {
     let made = prepare_words(program, alloc, words, files);
-    finish(alloc, files, out, made)
+    finish(alloc, files, out, &made)
 }
