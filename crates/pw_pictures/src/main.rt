@@ -5,6 +5,8 @@ mod program;
 #[cfg(test)]
 mod refused;
 #[cfg(test)]
+mod sentences;
+#[cfg(test)]
 mod tests;
 #[cfg(test)]
 mod waves;
