@@ -176,7 +176,7 @@ impl Ways {
     {
         let owner = owner.copy(alloc)?;
         let (parker, own, unparker) = parker_of(alloc)?;
-        // The driver's thread runs no loop of its own: its way has a seat of a word of nobody's.
+        // No lane is the driver's: its way has the own seat of a word that nothing looks at.
         let (_unread, begins) = open_start(alloc)?;
         let OpenedLoops { lanes, ends, ways } = open_loops(alloc, &owner, &unparker, loops)?;
         let mut ends = ends.into_vec();
