@@ -1,7 +1,8 @@
--- Sentences for people about the words of a command line: that the first is no command, and the forms
--- of the commands.
+-- Sentences for people about the words of a command line: that the first is no command, and the
+-- forms of the commands.
 -- Source: this project's own.
-use Rattle.std.specs.Prelude.{ℕ, ◌==◌, ◌||◌, Bool, if◌then◌else◌, List, [], ◌∷◌, ◌++◌, codes, bytes_eq}
+use Rattle.std.specs.Prelude.{ℕ, ◌==◌, ◌||◌, Bool, if◌then◌else◌, List, [], ◌∷◌, ◌++◌, codes}
+use Rattle.std.specs.Prelude.{bytes_eq}
 use Rattle.shown_words.specs.Escaping.{escaped}
 use Rattle.word_hints.specs.Guesses.{guesses, question}
 
@@ -17,7 +18,8 @@ abbrev pub commands : List (List ℕ)
 commands = codes "graph" ∷ codes "timeline" ∷ codes "wave" ∷ []
 
 abbrev pub asks_forms : List ℕ → Bool
-asks_forms w = bytes_eq w (codes "--help") || (bytes_eq w (codes "-h") || bytes_eq w (codes "--version"))
+asks_forms w = bytes_eq w (codes "--help")
+    || (bytes_eq w (codes "-h") || bytes_eq w (codes "--version"))
 
 -- a word that is no command
 unfoldable pub no_command : List ℕ → List ℕ

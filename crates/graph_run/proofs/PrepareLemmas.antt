@@ -10,6 +10,7 @@ use Rattle.pw_graph.specs.declared.plan.Plan.{Plan}
 use Rattle.wav_files.specs.declared.wav.WavIn.{WavIn}
 use Rattle.board_rule.specs.Known.{Known}
 use Rattle.ready_queues.specs.declared.way.Way.{Way}
+use Rattle.ready_queues.specs.declared.start_view.StartView.{StartView}
 use Rattle.ready_queues.specs.Opening.{IsNewWay}
 use Rattle.ready_queues.specs.QueueRule.{IsNodeOf}
 use Rattle.data_loop.specs.declared.loop_state.LoopState.{LoopState}
@@ -116,6 +117,7 @@ module _ (plan : Plan) (waves : List WavIn) (loops : ℕ) (shared : Shared) (xs 
           way = way_for i (get_or pairs i d).state (get_or pairs i d).way (omega (arith, inside, n))
               (subst (λ (s : LoopState). s.nodes ≡ nodes_of_loop (loop_of plan loops) plan i) (state_at i d low) is.nodes_are)
               (new i (get_or pairs i d).way (way_at i d low));
+          idle = ap (λ (v : StartView). v.runs) (new i (get_or pairs i d).way (way_at i d low)).idle;
         }
 
     pub pair_count : length pairs ≡ loops

@@ -3,6 +3,7 @@
 -- Source: PipeWire's documentation, "Data loops"; that the driver's thread adopts a loop is this
 -- project's own.
 use Rattle.std.specs.Prelude.{◌≡◌, ◌⊎◌, ℕ, ◌<◌, List, Contains, length, map, slice_index_or}
+use Rattle.ready_queues.specs.Starting.{IsIdle}
 use Rattle.data_loop.specs.declared.loop_state.LoopState.{LoopState}
 use Rattle.data_loop.specs.Loops.{plan_of}
 use Rattle.data_loop.specs.LoopKept.{IsDone}
@@ -14,7 +15,8 @@ use Rattle.graph_run.specs.LoopsOnPlan.{IsReady, HasDrivers, HasNoDriver, AreFir
 use Rattle.graph_run.specs.Outcomes.{IsDoneOf}
 
 module _ (shared : Shared) where
-  -- BEFORE THE RUN: a loop of the run's plan that no driver is in, and the same with its way
+  -- BEFORE THE RUN: a loop of the run's plan that no driver is in, and the same with its way, which
+  -- was not started
   pub record CanRun (s : LoopState) : Type 0 where
     pub ready : IsReady shared.boards s
     pub none : HasNoDriver s
@@ -24,6 +26,7 @@ module _ (shared : Shared) where
   pub record CanStart (given : LoopWay) : Type 0 where
     pub can_run : CanRun given.state
     pub way : IsWayFor shared.ways given.state given.way
+    pub idle : IsIdle given.way
 
   -- the driver's own loop, its seats and its way
   pub record CanDrive (d : Driving) : Type 0 where

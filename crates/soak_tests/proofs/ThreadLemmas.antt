@@ -9,6 +9,7 @@ use Rattle.board_rule.specs.declared.board.Board.{Board}
 use Rattle.board_rule.specs.Known.{Known}
 use Rattle.ready_queues.specs.declared.way.Way.{Way}
 use Rattle.ready_queues.specs.declared.ways.Ways.{Ways}
+use Rattle.ready_queues.specs.declared.start_view.StartView.{StartView}
 use Rattle.ready_queues.specs.Opening.{IsNewWay}
 use Rattle.ready_queues.specs.QueueRule.{IsNodeOf}
 use Rattle.data_loop.specs.declared.loop_state.LoopState.{LoopState}
@@ -62,4 +63,5 @@ module _ (plan : Plan) (waves : List WavIn) (loops : ℕ) (boards : List Board) 
           way = way_for i x.0 x.1 (omega (arith, inside, n))
               (subst (λ (s : LoopState). s.nodes ≡ nodes_of_loop (loop_of plan loops) plan i) (state_at i d low) (other_nodes i d.0 inside))
               (new i x.1 (way_at i d low));
+          idle = ap (λ (v : StartView). v.runs) (new i x.1 (way_at i d low)).idle;
         }

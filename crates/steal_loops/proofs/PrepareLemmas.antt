@@ -13,6 +13,7 @@ use Rattle.board_rule.specs.Known.{Known}
 use Rattle.ready_queues.specs.declared.way.Way.{Way}
 use Rattle.ready_queues.specs.declared.ways.Ways.{Ways}
 use Rattle.ready_queues.specs.AnsweredWith.{IsWayOf}
+use Rattle.ready_queues.specs.declared.start_view.StartView.{StartView}
 use Rattle.ready_queues.specs.Opening.{IsNewWay}
 use Rattle.data_loop.specs.declared.loop_state.LoopState.{LoopState}
 use Rattle.data_loop.specs.LoopStart.{IsLoopOf}
@@ -30,14 +31,14 @@ use Rattle.steal_loops.specs.declared.claimant.Claimant.{Claimant}
 use Rattle.steal_loops.specs.working.Cells.{IsCellFor, AreCells}
 use Rattle.steal_loops.specs.working.Crews.{IsOpened, CanDrive, HasNode}
 use Rattle.steal_loops.specs.working.NodeSets.{AreCelled}
-use Rattle.steal_loops.specs.working.Claimants.{IsUnusedSeat, IsClaimant, IsWorker, IsDriverClaimant, IsWorkersWay}
+use Rattle.steal_loops.specs.working.Claimants.{IsUnusedSeat, IsClaimant, IsNewWorker, IsDriverClaimant, IsWorkersWay}
 use Rattle.steal_loops.proofs.OneNodeLemmas.{one_node}
 
 -- all ways of the workers
 pub workers_ways : (ways : Ways) (loops : ℕ) (others : List Way) → ways.loops ≡ loops → length others ≡ loops
     → ((k : ℕ) (w : Way) → slice_get others k ≡ Some w → IsNewWay ways k w) → All (IsWorkersWay ways) others
 workers_ways ways loops others is count new k d low = let w : Way = get_or others k d in let here = new k w (slice_get-get_or others k d low) in
-    let number = here.loop_is in (here.answered, omega (arith, number, low, count, is))
+    let number = here.loop_is in (here.answered, omega (arith, number, low, count, is), ap (λ (v : StartView). v.runs) here.idle)
 
 -- the first of a list
 pub front : {X : Type 0} (P : X → Type 0) (xs ys : List X) → All P (xs ++ ys) → All P xs
@@ -123,8 +124,8 @@ new_claimant shared cells t seat answered none = let n = cells.count in let long
     }
 
 pub new_worker : (shared : Shared) → AreCells shared → (t : Claimant) → IsUnusedSeat shared.shelf t.seat → IsWorkersWay shared.ways t.way
-    → t.ended.items ≡ replicate shared.seating.loops false → IsWorker shared t
-new_worker shared cells t seat way none = (new_claimant shared cells t seat way.0 none, way.1)
+    → t.ended.items ≡ replicate shared.seating.loops false → IsNewWorker shared t
+new_worker shared cells t seat way none = ((new_claimant shared cells t seat way.0 none, way.1), way.2)
 
 -- THE CELLS on the shelf, and the driver's thread
 module _ (plan : Plan) (waves : List WavIn) (o : Opened) (opened : IsOpened plan waves o) (shared : Shared) (boards_are : shared.boards ≡ o.boards)

@@ -5,7 +5,7 @@ ghost use Rattle.cycle_model.specs.WavesFit.{WavesFit};
 ghost use Rattle.ready_queues.specs.Lanes.{loops_limit};
 ghost use Rattle.steal_loops.specs.working.Cells.{AreCells};
 ghost use Rattle.steal_loops.specs.working.Crews.{IsPrepared};
-ghost use Rattle.steal_loops.specs.working.Claimants.{IsUnusedSeat, IsWorker, IsWorkersWay};
+ghost use Rattle.steal_loops.specs.working.Claimants.{IsUnusedSeat, IsNewWorker, IsWorkersWay};
 
 use crate::claimant::Claimant;
 use crate::leading::Driving;
@@ -32,7 +32,7 @@ fn claimants_of(
     requires seats { All (IsUnusedSeat shared.now.shelf) seats }
     requires ways { All (IsWorkersWay shared.now.ways) ways }
     requires count { length ways ≡ length seats }
-    ensures workers { IfOk result (All (IsWorker shared.now)) }
+    ensures workers { IfOk result (All (IsNewWorker shared.now)) }
     ensures count { IfOk result (λ claimants. length claimants ≡ length ways) }
 {
     let cells = shared.seating.loops() as usize;

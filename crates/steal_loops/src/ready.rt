@@ -27,6 +27,7 @@ pub(crate) fn visit_signed<R: Wait, G: Gate>(
     ensures claimant { IsClaimant shared.now claimant.new }
     ensures number { claimant.new.way.number ≡ claimant.old.way.number }
     ensures awake { parker_view claimant.new.way.own ≡ parker_view claimant.old.way.own }
+    ensures begins { claimant.new.way.begins ≡ claimant.old.way.begins }
 {
     let cell = shared.seating.holder(node);
     if cell >= shared.seating.loops() {
@@ -53,6 +54,7 @@ pub(crate) fn visit_kept<R: Wait, G: Gate>(
     ensures claimant { IsClaimant shared.now claimant.new }
     ensures number { claimant.new.way.number ≡ claimant.old.way.number }
     ensures awake { parker_view claimant.new.way.own ≡ parker_view claimant.old.way.own }
+    ensures begins { claimant.new.way.begins ≡ claimant.old.way.begins }
 {
     let Some(node) = claimant.kept else {
         return false;
@@ -74,6 +76,7 @@ pub(crate) fn visit_some<R: Wait, G: Gate>(
     ensures claimant { IsClaimant shared.now claimant.new }
     ensures number { claimant.new.way.number ≡ claimant.old.way.number }
     ensures awake { parker_view claimant.new.way.own ≡ parker_view claimant.old.way.own }
+    ensures begins { claimant.new.way.begins ≡ claimant.old.way.begins }
 {
     match shared.signs.take_next(claimant.node) {
         Some(node) => visit_signed(rt, gate, shared, claimant, node, Hint::Signed),

@@ -24,6 +24,7 @@ pub(crate) fn visit_next<R: Wait, G: Gate>(
     ensures claimant { IsClaimant shared.now claimant.new }
     ensures number { claimant.new.way.number ≡ claimant.old.way.number }
     ensures awake { parker_view claimant.new.way.own ≡ parker_view claimant.old.way.own }
+    ensures begins { claimant.new.way.begins ≡ claimant.old.way.begins }
 {
     let cell = cell_at(claimant.next, claimant.ended.len());
     claimant.next = cell.saturating_add(1);

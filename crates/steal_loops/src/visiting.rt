@@ -116,6 +116,7 @@ pub(crate) fn visit<R: Wait, G: Gate>(
     ensures claimant { IsClaimant shared.now claimant.new }
     ensures number { claimant.new.way.number ≡ claimant.old.way.number }
     ensures awake { parker_view claimant.new.way.own ≡ parker_view claimant.old.way.own }
+    ensures begins { claimant.new.way.begins ≡ claimant.old.way.begins }
     ensures visited { HasVisited shared.now cell result claimant.old claimant.new }
 {
     if claimant.has_ended(cell) {

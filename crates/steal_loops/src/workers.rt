@@ -2,7 +2,8 @@
 ghost use Rattle.std.specs.Prelude.{◌≡◌, ◌<◌, IsTrue};
 ghost use Rattle.crossbeam_utils.specs.Token.{parker_view};
 ghost use Rattle.steal_loops.specs.working.Cells.{AreCells, HaveFinished};
-ghost use Rattle.steal_loops.specs.working.Claimants.{IsClaimant, IsWorker};
+ghost use Rattle.steal_loops.specs.working.Claimants.{IsClaimant, IsWorker, IsNewWorker};
+ghost use Rattle.ready_queues.specs.Starting.{IsStarted};
 
 use crate::claimant::{Claimant, are_all};
 use crate::counts::Hint;
@@ -22,6 +23,7 @@ fn visit_given<R: Wait, G: Gate>(rt: &R, gate: &G, shared: &Shared, claimant: &m
     ensures claimant { IsClaimant shared.now claimant.new }
     ensures number { claimant.new.way.number ≡ claimant.old.way.number }
     ensures awake { parker_view claimant.new.way.own ≡ parker_view claimant.old.way.own }
+    ensures begins { claimant.new.way.begins ≡ claimant.old.way.begins }
 {
     let Some(node) = shared.ways.receive(rt, &mut claimant.way) else {
         return false;
@@ -38,9 +40,11 @@ fn go_round<R: Wait, G: Gate>(rt: &R, gate: &G, shared: &Shared, claimant: &mut 
     requires cells { AreCells shared.now }
     requires claimant { IsClaimant shared.now claimant.old }
     requires own { claimant.old.way.number < shared.now.ways.loops }
+    requires started { IsStarted claimant.old.way }
     ensures claimant { IsClaimant shared.now claimant.new }
     ensures number { claimant.new.way.number ≡ claimant.old.way.number }
     ensures awake { parker_view claimant.new.way.own ≡ parker_view claimant.old.way.own }
+    ensures begins { claimant.new.way.begins ≡ claimant.old.way.begins }
 {
     if visit_kept(rt, gate, shared, claimant) {
         return true;
@@ -63,9 +67,11 @@ fn is_over<R: Wait, G: Gate>(
     requires cells { AreCells shared.now }
     requires claimant { IsClaimant shared.now claimant.old }
     requires own { claimant.old.way.number < shared.now.ways.loops }
+    requires started { IsStarted claimant.old.way }
     ensures claimant { IsClaimant shared.now claimant.new }
     ensures number { claimant.new.way.number ≡ claimant.old.way.number }
     ensures awake { parker_view claimant.new.way.own ≡ parker_view claimant.old.way.own }
+    ensures begins { claimant.new.way.begins ≡ claimant.old.way.begins }
     ensures over { IsTrue result → HaveFinished shared.now claimant.new.seat }
 {
     if go_round(rt, gate, shared, claimant) {
@@ -92,7 +98,7 @@ fn is_over<R: Wait, G: Gate>(
 ///
 /// On a machine with other work a worker that lets others run gives a whole time slice away. That
 /// does little harm here, where the other threads run what it would have run.
-/// Condition: the way is that of a worker.
+/// Condition: the way is that of a worker, and was not started.
 pub(crate) fn run_worker<R: Wait, G: Gate>(
     rt: &R,
     gate: &G,
@@ -100,10 +106,11 @@ pub(crate) fn run_worker<R: Wait, G: Gate>(
     claimant: Claimant,
 ) -> Claimant
     requires cells { AreCells shared.now }
-    requires worker { IsWorker shared.now claimant }
+    requires worker { IsNewWorker shared.now claimant }
     ensures worker { IsWorker shared.now result }
     ensures over { HaveFinished shared.now result.seat }
     ensures awake { parker_view result.way.own ≡ parker_view claimant.way.own }
+    ensures started { IsStarted result.way }
 {
     let mut claimant = claimant;
     let backoff = Backoff::new();

@@ -4,6 +4,7 @@ use Rattle.std.specs.Prelude.{◌≡◌, ℕ, ◌<◌, Bool, true, length, slice
 use Rattle.ready_queues.specs.declared.way.Way.{Way}
 use Rattle.ready_queues.specs.declared.ways.Ways.{Ways}
 use Rattle.ready_queues.specs.AnsweredWith.{IsWayOf}
+use Rattle.ready_queues.specs.Starting.{IsIdle}
 use Rattle.steal_shelf.specs.declared.shelf.Shelf.{Shelf}
 use Rattle.steal_shelf.specs.declared.shelf.ShelfSeat.{ShelfSeat}
 use Rattle.steal_shelf.specs.Seats.{cells_of, IsSeatOf, IsNewSeat, LacksCell}
@@ -26,13 +27,17 @@ pub record IsClaimant (shared : Shared) (t : Claimant) : Type 0 where
   pub ended : (i : ℕ) (d : Bool) → i < length (cells_of shared.shelf)
       → slice_index_or t.ended.items i d ≡ true → HasFinished shared t.seat i
 
--- THE WAY of a worker
+-- THE WAY of a worker before the run, which was not started
 abbrev pub IsWorkersWay : Ways → Way → Type 0
-IsWorkersWay ways way = IsWayOf ways way × (way.number < ways.loops)
+IsWorkersWay ways way = IsWayOf ways way × (way.number < ways.loops) × IsIdle way
 
 -- A WORKER, and the driver's thread
 abbrev pub IsWorker : Shared → Claimant → Type 0
 IsWorker shared t = IsClaimant shared t × (t.way.number < shared.ways.loops)
+
+-- a worker before the run: its way was not started
+abbrev pub IsNewWorker : Shared → Claimant → Type 0
+IsNewWorker shared t = IsWorker shared t × IsIdle t.way
 
 abbrev pub IsDriverClaimant : Shared → Claimant → Type 0
 IsDriverClaimant shared t = IsClaimant shared t × (t.way.number ≡ shared.ways.loops)

@@ -12,14 +12,14 @@ use Rattle.steal_loops.specs.declared.crew.LeadState.{LeadState}
 use Rattle.steal_loops.specs.declared.shared.Shared.{Shared}
 use Rattle.steal_loops.specs.declared.claimant.Claimant.{Claimant}
 use Rattle.steal_loops.specs.working.Cells.{AreCells, HaveFinished}
-use Rattle.steal_loops.specs.working.Claimants.{IsWorker, IsDriverClaimant}
+use Rattle.steal_loops.specs.working.Claimants.{IsNewWorker, IsDriverClaimant}
 use Rattle.steal_loops.specs.working.Crews.{CanDrive, HasNode}
 
 module _ (shared : Shared) where
-  -- BEFORE THE RUN: a worker of its cells
+  -- BEFORE THE RUN: a worker of its cells, whose way was not started
   pub record CanStart (t : Claimant) : Type 0 where
     pub cells : AreCells shared
-    pub worker : IsWorker shared t
+    pub worker : IsNewWorker shared t
 
   -- the driver's thread, and room for all cells and its own loop
   pub record CanLead (l : LeadState) : Type 0 where

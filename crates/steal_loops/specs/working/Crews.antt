@@ -20,7 +20,7 @@ use Rattle.steal_loops.specs.declared.opening.Opened.{Opened}
 use Rattle.steal_loops.specs.declared.preparing.Prepared.{Prepared}
 use Rattle.steal_loops.specs.declared.shared.Shared.{Shared}
 use Rattle.steal_loops.specs.working.Cells.{AreCells}
-use Rattle.steal_loops.specs.working.Claimants.{IsWorker, IsDriverClaimant}
+use Rattle.steal_loops.specs.working.Claimants.{IsNewWorker, IsDriverClaimant}
 
 -- OPENED: the boards of the plan, with a seat for each cell and one for the driver's own loop; the
 -- cells and that loop are ready to run on them
@@ -61,7 +61,7 @@ pub record IsPrepared (plan : Plan) (waves : List WavIn) (loops : ℕ)
   pub drivers : r.driving.drivers
       ≡ map (driver_of plan waves (cell_count plan)) (enumerate_from 0 r.shared.boards)
   pub cells : AreCells r.shared
-  pub workers : All (IsWorker r.shared) r.workers
+  pub workers : All (IsNewWorker r.shared) r.workers
   pub can_drive : CanDrive r.shared r.driving
   pub count : length r.workers ≡ loops
   pub nodes : (n : ℕ) → n < length plan.nodes

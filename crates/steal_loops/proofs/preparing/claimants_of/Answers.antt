@@ -4,7 +4,7 @@ use Rattle.std.proofs.lemmas.List.Elements.{All-head, All-tail, All-push}
 use Rattle.ready_queues.specs.declared.way.Way.{Way}
 use Rattle.steal_shelf.specs.declared.shelf.ShelfSeat.{ShelfSeat}
 use Rattle.steal_loops.specs.declared.claimant.Claimant.{Claimant}
-use Rattle.steal_loops.specs.working.Claimants.{IsUnusedSeat, IsWorker, IsWorkersWay}
+use Rattle.steal_loops.specs.working.Claimants.{IsUnusedSeat, IsNewWorker, IsWorkersWay}
 use Rattle.steal_loops.proofs.PrepareLemmas.{new_worker}
 use Rattle.steal_loops.proofs.preparing.claimants_of.Goals as goal
 
@@ -23,7 +23,7 @@ loop-seat-preserved-in-Continue-branch-2 c = let i = c.loop-seat.invariant in le
       seats = All-tail (IsUnusedSeat shared.shelf) seat left seats;
       ways = All-tail (IsWorkersWay shared.ways) way rest ways;
       same = omega (arith, many, few, same);
-      claimants = subst (All (IsWorker shared)) (sym pushed) (All-push (IsWorker shared) c.loop-seat.claimants t i.claimants
+      claimants = subst (All (IsNewWorker shared)) (sym pushed) (All-push (IsNewWorker shared) c.loop-seat.claimants t i.claimants
           (new_worker shared c.requires.cells t (subst (IsUnusedSeat shared.shelf) (sym made.seat) (All-head (IsUnusedSeat shared.shelf) seat left seats))
           (subst (IsWorkersWay shared.ways) (sym made.way) (All-head (IsWorkersWay shared.ways) way rest ways))
           (made.ended ∙ ap (λ (n : ℕ). replicate n false) c.loops-cells.ensures)));
