@@ -3,11 +3,11 @@ use Rattle.std.proofs.Common.{◌≡◌, ◌∙◌, ◌==◌, ◌-◌, ◌^◌, 
 use Rattle.std.proofs.Math.Logic.{∥∥₁_elim, ∥∥₁_map}
 use Rattle.std.proofs.Props.{props}
 use Rattle.std.specs.Prelude.{nat_lt, if◌then◌else◌}
+use Rattle.command_frame.specs.Outside.{Outside}
+use Rattle.command_frame.specs.Words.{Words}
 use Rattle.pw_outside.specs.declared.every.Every.{Every}
 use Rattle.pw_outside.specs.Every.{asked}
 use Rattle.run_results.specs.declared.status.Status.{Status}
-use Rattle.pw_top.specs.Outside.{Outside}
-use Rattle.pw_top.specs.Usage.{Words}
 use Rattle.pw_program.specs.Program.{IsToldOf}
 
 -- an ask keeps the period

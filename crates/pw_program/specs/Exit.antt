@@ -2,8 +2,8 @@
 -- could not read. Source: this project's own.
 use Rattle.std.specs.Prelude.{ℕ, List, Option, Some, None}
 use Rattle.command_frame.specs.Outside.{Outside}
+use Rattle.command_frame.specs.Words.{Words}
 use Rattle.fault_messages.specs.Message.{words_message}
-use Rattle.pw_top.specs.Usage.{Words}
 use Rattle.run_results.specs.declared.status.Status.{Status}
 use Rattle.system_files.specs.declared.unread.Unread.{Unread}
 use Rattle.system_files.specs.declared.unread.Unread.TheVariants as U

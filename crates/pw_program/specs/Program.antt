@@ -2,17 +2,18 @@
 -- or notes on the error output. Source: this project's own.
 use Rattle.std.specs.Prelude.{◌≡◌, ℕ, List, Option, Result}
 use Rattle.pw_outside.specs.declared.files.FileFail.{FileFail}
-use Rattle.command_frame.specs.Outside as frame
+use Rattle.command_frame.specs.FaultCauses.{Caused, IsUsage}
+use Rattle.command_frame.specs.Outside.{Outside}
+use Rattle.command_frame.specs.Words.{Words}
 use Rattle.program_exit.specs.Said.{ErrorOutput, IsSaid}
 use Rattle.run_results.specs.declared.found.Found.{Found}
 use Rattle.run_results.specs.declared.status.Status.{Status}
 use Rattle.run_results.specs.StatusNumbers.{status_number}
-use Rattle.pw_top.specs.FaultCauses.{Caused, IsUsage}
+use Rattle.run_results.specs.Statuses.{statuses}
 use Rattle.pw_top.specs.Found.{IsFound}
 use Rattle.pw_top.specs.Headline.{IsTold}
-use Rattle.pw_top.specs.Outside.{Outside}
 use Rattle.pw_top.specs.Playing.{Happened}
-use Rattle.pw_top.specs.Usage.{Words, command_of, ticks_in}
+use Rattle.pw_top.specs.Usage.{command_of, ticks_in}
 use Rattle.pw_top.specs.WorkFound.{IsWorkFound}
 use Rattle.fault_messages.specs.Explaining.{explained}
 use Rattle.system_files.specs.declared.why.FileWhy.{FileWhy}
@@ -45,23 +46,13 @@ pub record HasSaid (words : Words) (before now : Outside) (why : Option FileWhy)
   pub is_sentence : IsSentence words before now why status sentence
   pub said : IsSaid sentence errors errors_now answer
 
--- the outside in the words of the top call
-abbrev pub of_top : frame.Outside → Outside
-of_top o = record {
-  held = o.held;
-  given = o.given;
-  load_faults = o.load_faults;
-  store_faults = o.store_faults;
-  put_faults = o.put_faults;
-}
-
 -- A RUN with a status: the answer of the top call, the ticker that the words ask for, the causes,
 -- the number, and the sentence
-pub record HasRun (words : Words) (before now : frame.Outside) (why : Option FileWhy)
+pub record HasRun (words : Words) (before now : Outside) (why : Option FileWhy)
     (ticker : Asked) (code : ℕ) (status : Status) (sentence : List ℕ) : Type 0 where
-  pub told : IsToldOf words (of_top before) (of_top now) 0 (checks_of ticker) status
+  pub told : IsToldOf words before now 0 (checks_of ticker) status
   pub asked : period_of ticker ≡ ticks_in (command_of words)
-  pub cause : Caused (of_top before) (of_top now) status
-  pub usage : IsUsage (command_of words) status
+  pub cause : Caused statuses before now status
+  pub usage : IsUsage statuses (command_of words) status
   pub code_of : code ≡ status_number status
-  pub sentence_of : IsSentence words (of_top before) (of_top now) why status sentence
+  pub sentence_of : IsSentence words before now why status sentence

@@ -1,10 +1,11 @@
 //! What the program does with its words.
 ghost use Rattle.std.specs.Prelude.{◌≡◌, map, string_bytes};
+ghost use Rattle.command_frame.specs.FaultCauses.{Caused, IsUsage};
+ghost use Rattle.command_frame.specs.Outside.{outside};
 ghost use Rattle.program_exit.specs.Said.{shown};
-ghost use Rattle.pw_top.specs.FaultCauses.{Caused, IsUsage};
-ghost use Rattle.pw_top.specs.Outside.{outside};
 ghost use Rattle.pw_top.specs.Usage.{command_of, ticks_in};
 ghost use Rattle.run_results.specs.StatusNumbers.{status_number};
+ghost use Rattle.run_results.specs.Statuses.{statuses};
 ghost use Rattle.pw_program.specs.Asking.{period_of, checks_of};
 ghost use Rattle.pw_program.specs.Program.{IsToldOf, HasSaid};
 
@@ -38,9 +39,9 @@ pub fn run_program<R: Threads + Wait + Sync, F: Files + TellsWhy, O: Sink, E: Si
     ensures told { IsToldOf (map string_bytes words.now) (outside F.Files O.Sink files out)
         (outside F.Files O.Sink result.files result.out) 0 (checks_of result.ticker) result.status }
     ensures asked { period_of result.ticker ≡ ticks_in (command_of (map string_bytes words.now)) }
-    ensures cause { Caused (outside F.Files O.Sink files out)
+    ensures cause { Caused statuses (outside F.Files O.Sink files out)
         (outside F.Files O.Sink result.files result.out) result.status }
-    ensures usage { IsUsage (command_of (map string_bytes words.now)) result.status }
+    ensures usage { IsUsage statuses (command_of (map string_bytes words.now)) result.status }
     ensures code { result.code ≡ status_number result.status }
 
     // The sentence or the notes, by what the run found: the script that it read, and what it

@@ -1,10 +1,11 @@
 //! The top call, with the ticker that the words name.
 ghost use Rattle.std.specs.Prelude.{◌≡◌, ◌≤◌, map, string_bytes};
-ghost use Rattle.pw_top.specs.FaultCauses.{Caused, IsUsage};
+ghost use Rattle.command_frame.specs.FaultCauses.{Caused, IsUsage};
+ghost use Rattle.command_frame.specs.Outside.{outside};
 ghost use Rattle.pw_top.specs.Found.{IsFound};
-ghost use Rattle.pw_top.specs.Outside.{outside};
 ghost use Rattle.pw_top.specs.Usage.{command_of, ticks_in};
 ghost use Rattle.pw_top.specs.WorkFound.{IsWorkFound};
+ghost use Rattle.run_results.specs.Statuses.{statuses};
 ghost use Rattle.pw_program.specs.Asking.{period_of, checks_of};
 ghost use Rattle.pw_program.specs.Program.{IsToldOf};
 
@@ -32,9 +33,9 @@ fn run_status<R: Threads + Wait + Sync, F: Files, O: Sink, T: Ticker>(
     ensures found { IsFound (map string_bytes words.now) (F.held files.old) result.0 result.1 }
     ensures work { IsWorkFound result.0 (F.held files.old) (F.held files.new) (O.given out.old)
         (O.given out.new) result.1.work }
-    ensures cause { Caused (outside F.Files O.Sink files.old out.old)
+    ensures cause { Caused statuses (outside F.Files O.Sink files.old out.old)
         (outside F.Files O.Sink files.new out.new) result.0 }
-    ensures usage { IsUsage (command_of (map string_bytes words.now)) result.0 }
+    ensures usage { IsUsage statuses (command_of (map string_bytes words.now)) result.0 }
 {
     let Ran { report, found } = run_words_with(rt, alloc, words, files, out, &Open::new(), ticker);
     (report.status, found)
@@ -56,9 +57,9 @@ fn run_by<R: Threads + Wait + Sync, F: Files, O: Sink, T: Ticker>(
         result.found }
     ensures work { IsWorkFound result.status (F.held files) (F.held result.files) (O.given out)
         (O.given result.out) result.found.work }
-    ensures cause { Caused (outside F.Files O.Sink files out)
+    ensures cause { Caused statuses (outside F.Files O.Sink files out)
         (outside F.Files O.Sink result.files result.out) result.status }
-    ensures usage { IsUsage (command_of (map string_bytes words.now)) result.status }
+    ensures usage { IsUsage statuses (command_of (map string_bytes words.now)) result.status }
 {
     let (status, found) = run_status(rt, alloc, words, &mut files, &mut out, ticker);
     Run {
@@ -88,9 +89,9 @@ fn run_nth<R: Threads + Wait + Sync, F: Files, O: Sink, P: Asks>(
     ensures work { IsWorkFound result.0.status (F.held files) (F.held result.0.files)
         (O.given out) (O.given result.0.out) result.0.found.work }
     ensures asked { period_of result.1 ≡ n }
-    ensures cause { Caused (outside F.Files O.Sink files out)
+    ensures cause { Caused statuses (outside F.Files O.Sink files out)
         (outside F.Files O.Sink result.0.files result.0.out) result.0.status }
-    ensures usage { IsUsage (command_of (map string_bytes words.now)) result.0.status }
+    ensures usage { IsUsage statuses (command_of (map string_bytes words.now)) result.0.status }
 {
     let mut ticker: Nth<P> = Nth::new(n);
     let ran = run_by::<R, F, O, Nth<P>>(rt, alloc, words, files, out, &mut ticker);
@@ -113,9 +114,9 @@ pub(crate) fn run_asked<R: Threads + Wait + Sync, F: Files, O: Sink>(
     ensures work { IsWorkFound result.0.status (F.held files) (F.held result.0.files)
         (O.given out) (O.given result.0.out) result.0.found.work }
     ensures asked { period_of result.1 ≡ ticks_in (command_of (map string_bytes words.now)) }
-    ensures cause { Caused (outside F.Files O.Sink files out)
+    ensures cause { Caused statuses (outside F.Files O.Sink files out)
         (outside F.Files O.Sink result.0.files result.0.out) result.0.status }
-    ensures usage { IsUsage (command_of (map string_bytes words.now)) result.0.status }
+    ensures usage { IsUsage statuses (command_of (map string_bytes words.now)) result.0.status }
 {
     match ticks_of(words) {
         0 => {

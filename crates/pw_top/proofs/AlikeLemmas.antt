@@ -3,15 +3,16 @@
 use Rattle.std.proofs.Common.{◌≡◌, ℕ, Bool, true, false, List, [], ◌++◌, refl, sym, ap, ◌∙◌, ⊎_elim, inl, inr}
 use Rattle.std.specs.Prelude.{Result, Ok, Err}
 use Rattle.pw_outside.specs.Files.{Names}
+use Rattle.command_frame.specs.Answer.{gone_on}
+use Rattle.command_frame.specs.Words.{Words}
 use Rattle.pw_top.specs.declared.commands.run.Running.{Running}
 use Rattle.pw_top.specs.declared.commands.groups.Grouping.{Grouping}
 use Rattle.pw_top.specs.declared.parted.Parted.{Parted}
 use Rattle.pw_top.specs.declared.planned.Planned.{Planned}
 use Rattle.pw_top.specs.declared.playing.Crew.{Crew}
-use Rattle.run_results.specs.declared.status.Status.{Status}
 use Rattle.pw_top.specs.declared.usage.CommandLine.{CommandLine}
 use Rattle.pw_top.specs.declared.usage.CommandLine.TheVariants as C
-use Rattle.pw_top.specs.Answer.{Answer, gone_on}
+use Rattle.pw_top.specs.Answer.{Answer}
 use Rattle.pw_top.specs.CommandLine.{IsAnswer, IsAnswerTo, IsReadAnswer}
 use Rattle.pw_top.specs.OneAnswer.{is_traced, AreAlike}
 use Rattle.pw_top.specs.PlannedWork.{plan_work, rendered, PlaysPlan}
@@ -21,7 +22,7 @@ use Rattle.pw_top.specs.ScriptFile.{PlansFile}
 use Rattle.pw_top.specs.Groups.{PartsFile}
 use Rattle.pw_top.specs.GroupsWork.{GroupsPlan, IsGroupsAnswer}
 use Rattle.pw_top.specs.Soak.{PlansNumber, SoaksPlan, IsSoakAnswer}
-use Rattle.pw_top.specs.Usage.{Words, command_of}
+use Rattle.pw_top.specs.Usage.{command_of}
 use Rattle.pw_top.proofs.OnePartLemmas.{IsShort, binds_related}
 use Rattle.pw_top.proofs.OneRunLemmas.{file_one}
 use Rattle.pw_top.proofs.OneGroupsLemmas.{parts_one}
@@ -108,10 +109,10 @@ command_alike (C.Check c) h k names a b p q na nb = (command_one (C.Check c) h n
 command_alike (C.Soak c) h k names a b p q na nb = soak_same c.number h k a b p q na nb
 command_alike (C.Groups c) h k names a b p q na nb = parts_same c h k names a b p q na nb
 
-read_alike : (r : Result CommandLine Status) (h k : Happened) (names : Names) (a b : Answer) → IsReadAnswer r h names a → IsReadAnswer r k names b
+read_alike : (r : Result CommandLine ℕ) (h k : Happened) (names : Names) (a b : Answer) → IsReadAnswer r h names a → IsReadAnswer r k names b
     → ¬ IsShort a → ¬ IsShort b → AreAlike (is_traced r) a b
 read_alike (Ok c) h k names a b p q na nb = command_alike c h k names a b p q na nb
-read_alike (Err status) h k names a b p q na nb = p ∙ sym q
+read_alike (Err word) h k names a b p q na nb = p ∙ sym q
 
 pub answers_alike : (words : Words) (h k : Happened) (names : Names) (a b : Answer) → IsAnswer words h names a → IsAnswer words k names b
     → ¬ IsShort a → ¬ IsShort b → AreAlike (is_traced (command_of words)) a b

@@ -1,5 +1,5 @@
 -- Laws of `specs/Automate.antt`: what a read value says of the points, and that the stored wave can be written.
-use Rattle.std.proofs.Common.{◌≡◌, ℕ, zero, suc, ◌%◌, List, [], sym, ap, subst, ◌∙◌, arith}
+use Rattle.std.proofs.Common.{◌≡◌, ℕ, zero, suc, ◌%◌, List, [], refl, sym, ap, subst, ◌∙◌, arith}
 use Rattle.std.specs.Prelude.{Ok, Err}
 use Rattle.pod_codec.specs.declared.pod.Pod.{Pod}
 use Rattle.control_sequence.specs.declared.points.Points.{Points}
@@ -10,7 +10,9 @@ use Rattle.run_results.specs.declared.status.Status.{Status}
 use Rattle.control_sequence.proofs.AutomationLemmas.{length-automated}
 use Rattle.wav_files.specs.declared.wav.Wav.{Wav}
 use Rattle.wav_files.specs.WavWriting.{IsWave}
-use Rattle.pw_top.specs.working.Ending.{Ends, IsDeliverable, is_plain}
+use Rattle.command_frame.proofs.AllowedLemmas.{IsPlain}
+use Rattle.run_results.specs.Statuses.{means}
+use Rattle.pw_top.specs.working.Ending.{Ends, IsDeliverable}
 use Rattle.pw_top.specs.Allowed.{Reads}
 use Rattle.pw_top.specs.Automate.{control_refusal, points_outcome, GivesPoints, automated_wave, automate_work}
 use Rattle.pw_top.proofs.AllowedLemmas.{part_gives, part_refuses, part_memory}
@@ -23,13 +25,13 @@ pub refused : (place : ℕ) (pod : Pod) (fault : ControlFault) (status : Status)
 refused place pod F.Memory status e h =
     subst (λ s. Ends (Reads (GivesPoints place pod)) (Err s)) (sym e) (part_memory [] (GivesPoints place pod))
 refused place pod F.NotSequence status e h = part_refuses [] (GivesPoints place pod) status
-    (ap Err e ∙ sym (ap (points_outcome place) h)) (ap is_plain e)
+    (ap Err e ∙ sym (ap (points_outcome place) h)) (subst (λ s. IsPlain (means s)) (sym e) tt)
 refused place pod (F.OffsetFalls index) status e h = part_refuses [] (GivesPoints place pod) status
-    (ap Err e ∙ sym (ap (points_outcome place) h)) (ap is_plain e)
+    (ap Err e ∙ sym (ap (points_outcome place) h)) (subst (λ s. IsPlain (means s)) (sym e) tt)
 refused place pod (F.NotProps index) status e h = part_refuses [] (GivesPoints place pod) status
-    (ap Err e ∙ sym (ap (points_outcome place) h)) (ap is_plain e)
+    (ap Err e ∙ sym (ap (points_outcome place) h)) (subst (λ s. IsPlain (means s)) (sym e) tt)
 refused place pod (F.GainForm index) status e h = part_refuses [] (GivesPoints place pod) status
-    (ap Err e ∙ sym (ap (points_outcome place) h)) (ap is_plain e)
+    (ap Err e ∙ sym (ap (points_outcome place) h)) (subst (λ s. IsPlain (means s)) (sym e) tt)
 
 -- the stored wave can be written
 automated_is_wave : (wav : Wav) (points : Points) → IsWave wav → IsWave (automated_wave wav points.items)
@@ -44,5 +46,5 @@ automated_is_wave wav points h =
 
 pub automate_storable : (out : List ℕ) (wav : Wav) (points : Points) → IsWave wav
     → IsDeliverable (automate_work out wav points.items)
-automate_storable out wav points h zero d l = record { placed = omega arith; content = automated_is_wave wav points h }
+automate_storable out wav points h zero d l = record { placed = refl; content = automated_is_wave wav points h }
 automate_storable out wav points h (suc k) d l = absurd (omega (arith, l))

@@ -11,9 +11,8 @@ use Rattle.pw_top.specs.Allowed.{Reads, IsLoad}
 use Rattle.pw_top.specs.FilterFound.{IsFoundOf}
 use Rattle.pw_top.specs.FormatFile.{HoldsFormat}
 use Rattle.pw_top.specs.PodFile.{pod_file_limit}
-use Rattle.pw_top.specs.working.Ending.{Ends}
+use Rattle.pw_top.specs.working.Ending.{Ends, Tells}
 use Rattle.pw_top.specs.working.Filtering.{IsFoundWith, IsFoundAfter, IsFoundFrom}
-use Rattle.pw_top.specs.working.Preparing.{Tells}
 use Rattle.pw_top.proofs.AllowedLemmas.{reads_gives}
 use Rattle.pw_top.proofs.FoundLemmas.{part_gives_it, ok_then}
 

@@ -1,16 +1,22 @@
 -- Laws of `specs/Found.antt`, of what it names and of `specs/working/Seen.antt`: what is seen of a trace is found of it, by the
 -- parts of a check, by its words, and by the status; the script that was read; and the work that was done.
-use Rattle.std.proofs.Common.{◌≡◌, ℕ, List, map, refl, sym, subst, ◌∙◌, inl, inr}
+use Rattle.std.proofs.Common.{◌≡◌, ℕ, List, map, refl, sym, subst, inl, inr}
 use Rattle.std.specs.Prelude.{◌⊎◌, Option, Some, None, Result, Ok, Err, OnOk, IsSome}
+use Rattle.pw_lists.specs.declared.limit.Which.{Which}
 use Rattle.pw_lists.specs.declared.limit.Which.TheVariants as L
 use Rattle.pw_graph.specs.declared.event.Event.{Event}
 use Rattle.pw_graph.specs.declared.shape.Shape.{Shape}
 use Rattle.pw_outside.specs.Files.{Held, names_in}
-use Rattle.pw_outside.specs.Output.{Given, Gave}
 use Rattle.trace_check.specs.declared.reasons.Reason.{Reason}
 use Rattle.trace_check.specs.Finding.{IsFindingOn}
 use Rattle.trace_check.specs.FirstIllegal.{IsVerdictOn}
 use Rattle.trace_check.specs.Reasons.{IsReasonOn}
+use Rattle.command_frame.specs.declared.work.Work.{Work}
+use Rattle.command_frame.specs.Allowed.{IsLoadStop}
+use Rattle.command_frame.specs.Ending.{IsRefusal, PrepareCause}
+use Rattle.command_frame.specs.Finishing.{Finished}
+use Rattle.command_frame.specs.Outside.{Outside}
+use Rattle.command_frame.specs.Words.{Words}
 use Rattle.pw_top.specs.declared.commands.check_traces.Seen.{Seen}
 use Rattle.pw_top.specs.declared.commands.check_traces.Seen.TheVariants.{Line, Events}
 use Rattle.run_results.specs.declared.found.Found.{Found}
@@ -20,7 +26,6 @@ use Rattle.run_results.specs.declared.status.Status.{Status}
 use Rattle.run_results.specs.declared.status.Status.TheVariants as S
 use Rattle.pw_top.specs.declared.usage.CommandLine.{CommandLine}
 use Rattle.pw_top.specs.declared.usage.CommandLine.TheVariants as C
-use Rattle.command_frame.specs.declared.work.Work.{Work}
 use Rattle.pw_top.specs.Answer.{Expected}
 use Rattle.pw_top.specs.Allowed.{IsLoad, Gives}
 use Rattle.run_results.specs.Places.{trace_place}
@@ -29,17 +34,15 @@ use Rattle.pw_top.specs.CheckFound.{IsFoundIn, IsFoundUnder, IsFoundByCheck}
 use Rattle.pw_top.specs.Found.{IsFound, found_after}
 use Rattle.pw_top.specs.ScriptFile.{PlansFile}
 use Rattle.pw_top.specs.ScriptFound.{end_of, EndsAtLoad, IsScriptUnder, IsScriptBy, IsScriptOf}
-use Rattle.pw_top.specs.StatusLine.{has_line}
-use Rattle.pw_top.specs.Usage.{Words, IsRead, command_of}
+use Rattle.run_results.specs.Statuses.{means, statuses}
+use Rattle.pw_top.specs.Usage.{command_of}
 use Rattle.pw_top.specs.WhatFound.{IsWhatBy, IsWhatOf, IsWhat}
 use Rattle.pw_top.specs.WorkFound.{IsDone, IsWorkFound, work_in}
-use Rattle.pw_top.specs.working.Delivery.{Delivered, LineEnds}
-use Rattle.pw_top.specs.working.Ending.{Ends, IsRefusal, PrepareCause, IsDeliverable}
-use Rattle.pw_top.specs.working.Preparing.{Tells}
+use Rattle.pw_top.specs.working.Ending.{Ends, IsDeliverable, Tells}
 use Rattle.pw_top.specs.working.Seen.{IsSeenOn, verdict_by, finding_by, what_by}
 use Rattle.pw_top.proofs.AllowedLemmas.{outcome_is}
 use Rattle.pw_top.proofs.LoadsLemmas.{told_before}
-use Rattle.pw_top.proofs.PlayingLemmas.{either_end}
+use Rattle.pw_top.proofs.PlayingLemmas.{line_end}
 
 -- ONE PASS: the verdict has the place of the reason
 pub reason_verdict : (shapes : List Shape) (events : List Event) (reason : Option Reason) → IsReasonOn shapes events reason
@@ -99,16 +102,16 @@ check_found held now script trace p what r same told found =
     found
 
 -- the words were read
-pub what_read : (expected : Result CommandLine Status) (held : Held) (c : CommandLine) (what : What) (r : Result Work Status)
+pub what_read : (expected : Result CommandLine ℕ) (held : Held) (c : CommandLine) (what : What) (r : Result Work Status)
     → expected ≡ Ok c → OnOk r (IsWhatBy c held what) → OnOk r (IsWhatOf expected held what)
-what_read expected held c what r e h = subst (λ (x : Result CommandLine Status). OnOk r (IsWhatOf x held what)) (sym e) h
+what_read expected held c what r e h = subst (λ (x : Result CommandLine ℕ). OnOk r (IsWhatOf x held what)) (sym e) h
 
-pub script_read : (expected : Result CommandLine Status) (held : Held) (c : CommandLine) (status : Status) (script : Option (List ℕ))
+pub script_read : (expected : Result CommandLine ℕ) (held : Held) (c : CommandLine) (status : Status) (script : Option (List ℕ))
     → expected ≡ Ok c → IsScriptBy c held status script → IsScriptOf expected held status script
-script_read expected held c status script e h = subst (λ (x : Result CommandLine Status). IsScriptOf x held status script) (sym e) h
+script_read expected held c status script e h = subst (λ (x : Result CommandLine ℕ). IsScriptOf x held status script) (sym e) h
 
 -- they were not: they are refused, or memory was short
-none_short : (expected : Result CommandLine Status) (held : Held) → IsScriptOf expected held S.Memory None
+none_short : (expected : Result CommandLine ℕ) (held : Held) → IsScriptOf expected held S.Memory None
 none_short (Err refusal) held = refl
 none_short (Ok (C.Run c)) held = tt
 none_short (Ok (C.Check c)) held = tt
@@ -118,20 +121,22 @@ none_short (Ok (C.Filter c)) held = refl
 none_short (Ok (C.Automate c)) held = refl
 none_short (Ok (C.Soak c)) held = refl
 
-pub script_refused : (expected : Result CommandLine Status) (held : Held) (status : Status) (script : Option (List ℕ))
-    → IsRead expected (Err status) → script ≡ None → IsScriptOf expected held status script
-script_refused expected held (S.Usage w) script e h =
-    subst (λ (x : Result CommandLine Status). IsScriptOf x held (S.Usage w) script) (sym e) h
-script_refused expected held S.Memory script e h =
+pub script_refused : (expected : Result CommandLine ℕ) (held : Held) (word : ℕ) (status : Status) (script : Option (List ℕ))
+    → expected ≡ Err word → script ≡ None → IsScriptOf expected held status script
+script_refused expected held word status script e h = subst (λ (x : Result CommandLine ℕ). IsScriptOf x held status script) (sym e) h
+
+pub script_short : (expected : Result CommandLine ℕ) (held : Held) (script : Option (List ℕ)) → script ≡ None
+    → IsScriptOf expected held S.Memory script
+script_short expected held script h =
     subst (λ (s : Option (List ℕ)). IsScriptOf expected held S.Memory s) (sym h) (none_short expected held)
-script_refused expected held S.Ok script e h = absurd e
-script_refused expected held (S.Script w v) script e h = absurd e
-script_refused expected held (S.Wav w v) script e h = absurd e
-script_refused expected held (S.Pod w v) script e h = absurd e
-script_refused expected held (S.Absent w) script e h = absurd e
-script_refused expected held (S.ReadFault w) script e h = absurd e
-script_refused expected held (S.WriteFault w) script e h = absurd e
-script_refused expected held (S.Limit w v) script e h = absurd e
+
+-- the load of a script ends a command at its place
+pub load_stops : (place : ℕ) (which : Which) (status : Status) → IsLoadStop statuses place (S.Limit place which) status
+    → EndsAtLoad place status
+load_stops place which status (inl e) = subst (EndsAtLoad place) (sym e) refl
+load_stops place which status (inr (inl e)) = subst (EndsAtLoad place) (sym e) refl
+load_stops place which status (inr (inr (inl e))) = subst (EndsAtLoad place) (sym e) refl
+load_stops place which status (inr (inr (inr e))) = subst (EndsAtLoad place) (sym e) tt
 
 -- HOW A COMMAND GOES ON: it was not ended by the load of its script, or ends as it would have, or memory is short
 abbrev pub GoesOn : Status → Status → Type 0
@@ -155,91 +160,66 @@ script_by (C.Filter c) held script status later e h = h
 script_by (C.Automate c) held script status later e h = h
 script_by (C.Soak c) held script status later e h = h
 
-script_of_words : (expected : Result CommandLine Status) (held : Held) (script : Option (List ℕ)) (status later : Status)
+script_of_words : (expected : Result CommandLine ℕ) (held : Held) (script : Option (List ℕ)) (status later : Status)
     → GoesOn status later → IsScriptOf expected held status script → IsScriptOf expected held later script
 script_of_words (Ok c) held script status later e h = script_by c held script status later e h
 script_of_words (Err refusal) held script status later e h = h
 
 -- BY THE STATUS: where that is Ok, work was prepared
-module _ (f f' s s' p p1 p' : ℕ) (hl hl' : Held) (g g1 g' : Given) where
-  none_ok : (e mid : Status) → IsRefusal f f' e → mid ≡ e → (S.Ok ≡ mid) ⊎ (S.Ok ≡ S.Memory) → ⊥
-  none_ok e mid c is (inl same) = subst (IsRefusal f f') (sym (same ∙ is)) c
-  none_ok e mid c is (inr short) = cc
+module _ (f f' : ℕ) (b n : Outside) where
+  none_ok : (e : Status) → IsRefusal f f' (means e) → (S.Ok ≡ e) ⊎ (S.Ok ≡ S.Memory) → ⊥
+  none_ok e c (inl same) = subst (λ (s : Status). IsRefusal f f' (means s)) (sym same) c
+  none_ok e c (inr short) = cc
 
-  ok_prepared : (made : Result Work Status) (mid : Status) (X : Type 0) → PrepareCause IsDeliverable f f' made
-      → Delivered made s s' p p1 hl hl' g g1 mid → LineEnds mid p1 p' g1 g' S.Ok → OnOk made X → X
-  ok_prepared (Ok work) mid X c d e h = h
-  ok_prepared (Err status) mid X c d e h = absurd (none_ok status mid c d.0 (either_end (has_line mid) mid S.Ok _ _ _ e))
+  refusal_ends : (e status : Status) → Finished statuses (Err e) b n status → (status ≡ e) ⊎ (status ≡ S.Memory)
+  refusal_ends e status d = line_end e b.put_faults n.put_faults b.given n.given status d.1
 
-  pub what_ends : (words : Words) (held : Held) (what : What) (made : Result Work Status) (mid : Status)
-      → PrepareCause IsDeliverable f f' made
-      → Delivered made s s' p p1 hl hl' g g1 mid → LineEnds mid p1 p' g1 g' S.Ok
-      → OnOk made (IsWhatOf (command_of words) held what) → IsWhat words held S.Ok what
-  what_ends words held what made mid c d e h = ok_prepared made mid (IsWhatOf (command_of words) held what) c d e h
+  what_ends : (words : Words) (held : Held) (what : What) (made : Result Work Status) → PrepareCause statuses IsDeliverable f f' made
+      → Finished statuses made b n S.Ok → OnOk made (IsWhatOf (command_of words) held what) → IsWhat words held S.Ok what
+  what_ends words held what (Ok work) c d h = h
+  what_ends words held what (Err e) c d h = absurd (none_ok e c (refusal_ends e S.Ok d))
 
-  goes_on : (made : Result Work Status) (mid status : Status) → Delivered made s s' p p1 hl hl' g g1 mid
-      → (status ≡ mid) ⊎ (status ≡ S.Memory) → GoesOn (end_of made) status
-  goes_on (Ok work) mid status d e = inl refl
-  goes_on (Err refusal) mid status d (inl same) = inr (inl (same ∙ d.0))
-  goes_on (Err refusal) mid status d (inr short) = inr (inr short)
+  goes_on : (made : Result Work Status) (status : Status) → Finished statuses made b n status → GoesOn (end_of made) status
+  goes_on (Ok work) status d = inl refl
+  goes_on (Err e) status d = inr (refusal_ends e status d)
 
-  pub script_ends : (expected : Result CommandLine Status) (held : Held) (script : Option (List ℕ)) (made : Result Work Status)
-      (mid status : Status) → Delivered made s s' p p1 hl hl' g g1 mid → LineEnds mid p1 p' g1 g' status
-      → IsScriptOf expected held (end_of made) script → IsScriptOf expected held status script
-  script_ends expected held script made mid status d e h = script_of_words expected held script (end_of made) status
-      (goes_on made mid status d (either_end (has_line mid) mid status _ _ _ e)) h
+  script_ends : (expected : Result CommandLine ℕ) (held : Held) (script : Option (List ℕ)) (made : Result Work Status) (status : Status)
+      → Finished statuses made b n status → IsScriptOf expected held (end_of made) script → IsScriptOf expected held status script
+  script_ends expected held script made status d h =
+      script_of_words expected held script (end_of made) status (goes_on made status d) h
 
   -- the work that was done
-  all_put : (work : Work) (mid : Status) → mid ≡ S.Ok → Delivered (Ok work) s s' p p1 hl hl' g g1 mid
-      → LineEnds mid p1 p' g1 g' S.Ok → IsDone hl hl' g g' (Some work)
-  all_put work mid ok d e =
-      let done = subst (λ m. Delivered (Ok work) s s' p p1 hl hl' g g1 m) ok d in
-      let ends = subst (λ m. LineEnds m p1 p' g1 g' S.Ok) ok e in record {
-        work = work;
-        there = refl;
-        stored = done.0;
-        put = subst (λ now. Gave work.text g now) (sym ends.1) done.1;
-      }
-
-  is_ok : (mid : Status) → (S.Ok ≡ mid) ⊎ (S.Ok ≡ S.Memory) → mid ≡ S.Ok
-  is_ok mid (inl same) = sym same
-  is_ok mid (inr short) = cc
-
-  pub work_ends : (made : Result Work Status) (mid : Status) → PrepareCause IsDeliverable f f' made
-      → Delivered made s s' p p1 hl hl' g g1 mid → LineEnds mid p1 p' g1 g' S.Ok → IsDone hl hl' g g' (work_in made)
-  work_ends (Ok work) mid c d e = all_put work mid (is_ok mid (either_end (has_line mid) mid S.Ok _ _ _ e)) d e
-  work_ends (Err status) mid c d e = absurd (none_ok status mid c d.0 (either_end (has_line mid) mid S.Ok _ _ _ e))
+  work_ends : (made : Result Work Status) → PrepareCause statuses IsDeliverable f f' made → Finished statuses made b n S.Ok
+      → IsDone b.held n.held b.given n.given (work_in made)
+  work_ends (Ok work) c d = record { work = work; there = refl; stored = d.follows.files; put = d.follows.text }
+  work_ends (Err e) c d = absurd (none_ok e c (refusal_ends e S.Ok d))
 
   -- all that was found, by the status at the end
-  pub found_ends : (words : Words) (held : Held) (found : Found) (made : Result Work Status) (mid status : Status)
-      → PrepareCause IsDeliverable f f' made
-      → Delivered made s s' p p1 hl hl' g g1 mid → LineEnds mid p1 p' g1 g' status
-      → IsScriptOf (command_of words) held (end_of made) found.script
-      → OnOk made (IsWhatOf (command_of words) held found.what)
-      → IsFound words held status (found_after status made found)
-      × IsWorkFound status hl hl' g g' (found_after status made found).work
-  found_ends words held found made mid S.Ok c d e x h = (
-    record {
-      script = script_ends (command_of words) held found.script made mid S.Ok d e x;
-      what = what_ends words held found.what made mid c d e h;
-    },
-    work_ends made mid c d e,
-  )
-  found_ends words held found made mid (S.Usage w) c d e x h =
-      (record { script = script_ends (command_of words) held found.script made mid (S.Usage w) d e x; what = refl }, refl)
-  found_ends words held found made mid (S.Script w v) c d e x h =
-      (record { script = script_ends (command_of words) held found.script made mid (S.Script w v) d e x; what = refl }, refl)
-  found_ends words held found made mid (S.Wav w v) c d e x h =
-      (record { script = script_ends (command_of words) held found.script made mid (S.Wav w v) d e x; what = refl }, refl)
-  found_ends words held found made mid (S.Pod w v) c d e x h =
-      (record { script = script_ends (command_of words) held found.script made mid (S.Pod w v) d e x; what = refl }, refl)
-  found_ends words held found made mid (S.Absent w) c d e x h =
-      (record { script = script_ends (command_of words) held found.script made mid (S.Absent w) d e x; what = refl }, refl)
-  found_ends words held found made mid (S.ReadFault w) c d e x h =
-      (record { script = script_ends (command_of words) held found.script made mid (S.ReadFault w) d e x; what = refl }, refl)
-  found_ends words held found made mid (S.WriteFault w) c d e x h =
-      (record { script = script_ends (command_of words) held found.script made mid (S.WriteFault w) d e x; what = refl }, refl)
-  found_ends words held found made mid (S.Limit w v) c d e x h =
-      (record { script = script_ends (command_of words) held found.script made mid (S.Limit w v) d e x; what = refl }, refl)
-  found_ends words held found made mid S.Memory c d e x h =
-      (record { script = script_ends (command_of words) held found.script made mid S.Memory d e x; what = refl }, refl)
+  module _ (words : Words) (held : Held) (found : Found) (made : Result Work Status) where
+    abbrev AllFound : Status → Type 0
+    AllFound status = IsFound words held status (found_after status made found)
+        × IsWorkFound status b.held n.held b.given n.given (found_after status made found).work
+
+    pub found_ends : (status : Status) → PrepareCause statuses IsDeliverable f f' made → Finished statuses made b n status
+        → IsScriptOf (command_of words) held (end_of made) found.script
+        → OnOk made (IsWhatOf (command_of words) held found.what) → AllFound status
+    found_ends S.Ok c d x h = (
+      record {
+        script = script_ends (command_of words) held found.script made S.Ok d x;
+        what = what_ends words held found.what made c d h;
+      },
+      work_ends made c d,
+    )
+    found_ends (S.Usage w) c d x h = (record { script = script_ends (command_of words) held found.script made (S.Usage w) d x; what = refl }, refl)
+    found_ends (S.Script w v) c d x h =
+        (record { script = script_ends (command_of words) held found.script made (S.Script w v) d x; what = refl }, refl)
+    found_ends (S.Wav w v) c d x h = (record { script = script_ends (command_of words) held found.script made (S.Wav w v) d x; what = refl }, refl)
+    found_ends (S.Pod w v) c d x h = (record { script = script_ends (command_of words) held found.script made (S.Pod w v) d x; what = refl }, refl)
+    found_ends (S.Absent w) c d x h = (record { script = script_ends (command_of words) held found.script made (S.Absent w) d x; what = refl }, refl)
+    found_ends (S.ReadFault w) c d x h =
+        (record { script = script_ends (command_of words) held found.script made (S.ReadFault w) d x; what = refl }, refl)
+    found_ends (S.WriteFault w) c d x h =
+        (record { script = script_ends (command_of words) held found.script made (S.WriteFault w) d x; what = refl }, refl)
+    found_ends (S.Limit w v) c d x h =
+        (record { script = script_ends (command_of words) held found.script made (S.Limit w v) d x; what = refl }, refl)
+    found_ends S.Memory c d x h = (record { script = script_ends (command_of words) held found.script made S.Memory d x; what = refl }, refl)

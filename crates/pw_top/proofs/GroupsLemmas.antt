@@ -42,6 +42,7 @@ use Rattle.cycle_model.proofs.KeptLemmas.{kept_is_wave}
 use Rattle.cycle_trace.specs.Printable.{JoinsPorts}
 use Rattle.board_rule.specs.declared.closed.Closed.{Closed}
 use Rattle.driver_groups.specs.GroupRun.{AreRunsOf}
+use Rattle.run_results.proofs.StatusLemmas.{write_placed}
 use Rattle.pw_top.specs.working.Ending.{IsStorable}
 use Rattle.pw_top.specs.Joined.{node_of, node_in, all_of, kept_at}
 use Rattle.pw_top.specs.PlannedWork.{rendered}
@@ -110,7 +111,7 @@ waves_kept waves parts sound fit = λ i d lt. kept_is_wave (get_or parts i d).pl
 
 pub stores_made : (lines : List Line) (sinks : List Kept) → All (λ kept. 0 < place_of (sink_line_of lines kept.node)) sinks
     → All (λ (kept : Kept). IsWave kept.wav) sinks → All IsStorable (map (sink_store lines) sinks)
-stores_made lines sinks placed wave = All-map IsStorable (sink_store lines) sinks (λ i d l. record { placed = placed i d l; content = wave i d l })
+stores_made lines sinks placed wave = All-map IsStorable (sink_store lines) sinks (λ i d l. record { placed = write_placed _ (placed i d l); content = wave i d l })
 
 -- THE NODES of all parts have the kinds of the script
 kinds_so_far : (ks : List Kind) (h : ℕ → Option PlanNode)

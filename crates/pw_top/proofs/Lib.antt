@@ -7,7 +7,6 @@ pub mod FormatFileLemmas
 pub mod FilterFoundLemmas
 pub mod FoundLemmas
 pub mod GroupsLemmas
-pub mod HeadlineLemmas
 pub mod JoinedLemmas
 pub mod LoadsLemmas
 pub mod OneAnswerLemmas
@@ -20,16 +19,13 @@ pub mod OneNarrowLemmas
 pub mod OnePartLemmas
 pub mod OneRunLemmas
 pub mod OneSoakLemmas
-pub mod PieceLemmas
 pub mod PlanWorkLemmas
 pub mod PlayingLemmas
 pub mod RefusedFoundLemmas
 pub mod RunFoundLemmas
 pub mod PrintableLemmas
 pub mod PodFileLemmas
-pub mod StatusLineLemmas
 pub mod PlanInputLemmas
-pub mod StoppingLemmas
 pub mod TicksLemmas
 pub mod SurelyLemmas
 pub mod WaveFormLemmas

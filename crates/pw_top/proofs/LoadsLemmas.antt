@@ -11,7 +11,11 @@ use Rattle.graph_plan.specs.Conditions.{AreLinesOf}
 use Rattle.script_inputs.specs.Inputs.{nothing_made, plain_kind}
 use Rattle.script_inputs.proofs.LineLemmas as L
 use Rattle.script_inputs.proofs.LineLemmas.{IsUnderWay}
+use Rattle.command_frame.specs.declared.ending.End.{End}
+use Rattle.command_frame.specs.declared.ending.End.TheVariants as E
+use Rattle.command_frame.specs.Ending.{IsLateRefusal}
 use Rattle.run_results.specs.declared.status.Status.{Status}
+use Rattle.run_results.specs.Statuses.{means}
 use Rattle.pw_top.specs.declared.inputs.PlanInputs.{PlanInputs}
 use Rattle.run_results.specs.declared.status.Status.TheVariants as S
 use Rattle.pw_top.specs.working.Ending.{Ends, CommandCause}
@@ -58,18 +62,18 @@ ends_here names left inputs e = subst (λ (ls : List Line). Ends (LoadsAll names
     (part_gives [] (λ outcome. outcome ≡ Ok inputs) inputs refl)
 
 -- a fault of a load that was later
+later_end : (a b n : ℕ) (end : End) → a ≤ b → IsLateRefusal b n end → IsLateRefusal a n end
+later_end a b n E.Done l h = h
+later_end a b n (E.Usage word) l h = h
+later_end a b n (E.ReadFault place) l h = omega (arith, l, h)
+later_end a b n (E.StoreFault place) l h = h
+later_end a b n E.PutFault l h = h
+later_end a b n E.Memory l h = h
+later_end a b n E.Refused l h = h
+
 pub later_cause : {T U : Type 0} (P : T → Type 0) (Q : U → Type 0) (a b n : ℕ) (status : Status) → a ≤ b → CommandCause P b n (Err status)
     → CommandCause Q a n (Err status)
-later_cause P Q a b n S.Ok l h = h
-later_cause P Q a b n (S.Usage w) l h = h
-later_cause P Q a b n (S.Absent w) l h = h
-later_cause P Q a b n (S.Script w v) l h = h
-later_cause P Q a b n (S.Wav w v) l h = h
-later_cause P Q a b n (S.Pod w v) l h = h
-later_cause P Q a b n (S.Limit w v) l h = h
-later_cause P Q a b n (S.ReadFault w) l h = omega (arith, l, h)
-later_cause P Q a b n (S.WriteFault w) l h = h
-later_cause P Q a b n S.Memory l h = h
+later_cause P Q a b n status l h = later_end a b n (means status) l h
 
 -- out of memory before the first line
 line_memory : (names : Names) (place : ℕ) (command : Command) (inputs : PlanInputs) → Ends (LoadsLine names place command inputs) (Err S.Memory)

@@ -8,7 +8,7 @@ use Rattle.format_filter.specs.declared.common.Filtered.{Filtered}
 use Rattle.format_filter.specs.declared.common.Filtered.TheVariants.{Common, Clash, Types}
 use Rattle.format_filter.proofs.OneFormatLemmas.{filters_one, written_one}
 use Rattle.wav_files.specs.declared.wav.Wav.{Wav}
-use Rattle.run_results.specs.declared.status.Status.{Status}
+use Rattle.command_frame.specs.Words.{Words}
 use Rattle.pw_top.specs.declared.usage.CommandLine.{CommandLine}
 use Rattle.pw_top.specs.declared.usage.CommandLine.TheVariants as C
 use Rattle.pw_top.specs.Answer.{Answer}
@@ -19,7 +19,7 @@ use Rattle.pw_top.specs.Filter.{StoresObject, GivesFiltered, FiltersTo, FiltersS
 use Rattle.pw_top.specs.Automate.{GivesPoints, HoldsPoints, AutomatesWave, ReadsPoints, LoadsPoints, ReadsWave}
 use Rattle.pw_top.specs.Dump.{DumpsPod, DumpsBytes}
 use Rattle.pw_top.specs.Playing.{Happened, Idly}
-use Rattle.pw_top.specs.Usage.{Words, command_of}
+use Rattle.pw_top.specs.Usage.{command_of}
 use Rattle.pw_top.specs.CommandLine.{IsAnswer, IsAnswerTo, IsReadAnswer}
 use Rattle.pw_top.proofs.OnePartLemmas.{IsShort, HasOne, OneOutcome, part_one, outcomes_equal, binds_one, load_one, pod_one, held_one, format_one}
 use Rattle.pw_top.proofs.OneRunLemmas.{run_one}
@@ -84,9 +84,9 @@ command_one (C.Check c) h names = idle_one _ h (check_one names c.script c.trace
 command_one (C.Soak c) h names = soak_one c.number h
 command_one (C.Groups c) h names = groups_one c h names
 
-read_one : (r : Result CommandLine Status) (h : Happened) (names : Names) → HasOne (IsReadAnswer r h names)
+read_one : (r : Result CommandLine ℕ) (h : Happened) (names : Names) → HasOne (IsReadAnswer r h names)
 read_one (Ok c) h names = command_one c h names
-read_one (Err status) h names = record { one = λ a b p q na nb. p ∙ sym q }
+read_one (Err word) h names = record { one = λ a b p q na nb. p ∙ sym q }
 
 -- THE ANSWER of a command line, by what happened in the call and by what the files hold
 pub answers_one : (words : Words) (h : Happened) (names : Names) (a b : Answer) → IsAnswer words h names a

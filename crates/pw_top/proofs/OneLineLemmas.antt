@@ -28,8 +28,7 @@ use Rattle.pw_top.specs.Answer.{Expected}
 use Rattle.pw_top.specs.Allowed.{Reads, IsLoad}
 use Rattle.pw_top.specs.FormatFile.{HoldsFormat}
 use Rattle.pw_top.specs.Refusals.{wave_outcome}
-use Rattle.pw_top.specs.Loads.{wav_limit, wav_which, TakesWave, ReadsSource, LoadsSource, narrowed_outcome, NarrowsTo, ReadsOffer, LoadsOffer}
-use Rattle.pw_top.specs.Loads.{LoadsLine}
+use Rattle.pw_top.specs.Loads.{wav_limit, wav_which, TakesWave, ReadsSource, LoadsSource, narrowed_outcome, NarrowsTo, ReadsOffer, LoadsOffer, LoadsLine}
 use Rattle.script_inputs.specs.working.SoundInputs.{MayMake}
 use Rattle.pw_top.specs.PlanInputs.{with_wave, with_plain, AreSoundInputs}
 use Rattle.pw_top.proofs.OnePartLemmas.{HasOne, part_one, outcomes_equal, ok_is, binds_one, part_gave, went, load_one, format_one}

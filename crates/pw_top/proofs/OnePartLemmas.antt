@@ -13,9 +13,11 @@ use Rattle.format_filter.proofs.OneFormatLemmas.{formats_one, object_faultless}
 use Rattle.run_results.specs.declared.status.Status.{Status}
 use Rattle.run_results.specs.declared.status.Status.TheVariants as S
 use Rattle.run_results.specs.declared.status.PodWhy.TheVariants as P
-use Rattle.pw_top.specs.Answer.{Expected, ended, gone_on, load_outcome}
+use Rattle.run_results.specs.Statuses.{statuses}
+use Rattle.command_frame.specs.Answer.{ended, gone_on, load_outcome}
+use Rattle.command_frame.specs.Allowed.Binds.{short, stops, goes}
+use Rattle.pw_top.specs.Answer.{Expected}
 use Rattle.pw_top.specs.Allowed.{Part, IsLoad, Binds, Gives}
-use Rattle.pw_top.specs.Allowed.Binds.{short, stops, goes}
 use Rattle.pw_top.specs.PodFile.{pod_refusal, HoldsPod, IsReadFrom, HoldsAs}
 use Rattle.pw_top.specs.FormatFile.{IsFormatIn, HoldsFormat}
 
@@ -146,8 +148,9 @@ went P next e x (goes f y r p fy ny d) is = record {
 }
 
 pub load_one : (names : Names) (place : ℕ) (name : List ℕ) (limit : ℕ) (which : Which) → HasOne (IsLoad names place name limit which)
-load_one names place name limit which = part_one (place ∷ []) (λ outcome. outcome ≡ load_outcome names place name limit which)
-    (outcomes_equal (load_outcome names place name limit which))
+load_one names place name limit which =
+    let loaded = load_outcome statuses names place name limit (S.Limit place which) in
+    part_one (place ∷ []) (λ outcome. outcome ≡ loaded) (outcomes_equal loaded)
 
 -- the value of a file, and its format
 module _ (place : ℕ) (bytes : List ℕ) where

@@ -34,6 +34,7 @@ use Rattle.cycle_model.specs.Rendering.{rendered_sinks, kept_of, end_stream}
 use Rattle.cycle_model.specs.WavesFit.{WavesFit}
 use Rattle.cycle_model.proofs.KeptLemmas.{kept_is_wave}
 use Rattle.cycle_trace.specs.Printable.{JoinsPorts}
+use Rattle.run_results.proofs.StatusLemmas.{write_placed}
 use Rattle.pw_top.specs.working.Ending.{IsStorable}
 use Rattle.pw_top.specs.SinkStores.{makes_sink, sink_line_of, place_of, sink_store, AllPlaced}
 
@@ -75,7 +76,7 @@ lines_print plan h = All-weaker (JoinsKinds plan) (JoinsPorts plan.nodes) (joine
 pub stores_made : (lines : List Line) (plan : Plan) (waves : List WavIn) → IsSoundPlan plan → WavesFit plan waves → AllPlaced lines plan waves
     → All IsStorable (map (sink_store lines) (rendered_sinks plan waves))
 stores_made lines plan waves sound fit placed = All-map IsStorable (sink_store lines) (rendered_sinks plan waves)
-    (λ i d l. record { placed = placed i d l; content = kept_is_wave plan waves sound fit i d l })
+    (λ i d l. record { placed = write_placed _ (placed i d l); content = kept_is_wave plan waves sound fit i d l })
 
 -- a list of nodes that were made has a sink of this number
 abbrev HasSink : List (ℕ × Kind) → ℕ → Type 0

@@ -1,21 +1,25 @@
 -- Laws of `specs/Playing.antt`: what happened, by how a part ends, and by the status.
-use Rattle.std.proofs.Common.{◌≡◌, ℕ, Bool, true, false, sym, subst, refl, inl, inr, ap}
-use Rattle.std.specs.Prelude.{◌⊎◌, Result, Ok, Err, MatchBool}
-use Rattle.pw_outside.specs.Files.{Held}
+use Rattle.std.proofs.Common.{◌≡◌, ℕ, zero, suc, sym, subst, refl, inl, inr, ap}
+use Rattle.std.specs.Prelude.{◌⊎◌, Result, Ok, Err}
 use Rattle.pw_outside.specs.Output.{Given}
+use Rattle.command_frame.specs.declared.work.Work.{Work}
+use Rattle.command_frame.specs.Allowed.Binds.{goes}
+use Rattle.command_frame.specs.Answer.{gone_on}
+use Rattle.command_frame.specs.Delivery.{LineEnds}
+use Rattle.command_frame.specs.Ending.{IsEndOf, IsRefusal, PrepareCause}
+use Rattle.command_frame.specs.Ending.IsEndOf.{is_end}
+use Rattle.command_frame.specs.Finishing.{IsWorkEnd, Finished}
+use Rattle.command_frame.specs.Outside.{Outside}
+use Rattle.command_frame.proofs.AllowedLemmas.{later}
 use Rattle.run_results.specs.declared.status.Status.{Status}
 use Rattle.run_results.specs.declared.status.Status.TheVariants as S
-use Rattle.command_frame.specs.declared.work.Work.{Work}
-use Rattle.pw_top.specs.Answer.{Answer, Expected, gone_on}
+use Rattle.run_results.specs.Statuses.{means, statuses}
+use Rattle.run_results.proofs.StatusLemmas.{one_memory}
+use Rattle.pw_top.specs.Answer.{Answer, Expected, status_of}
 use Rattle.pw_top.specs.Allowed.{Binds}
-use Rattle.pw_top.specs.Allowed.Binds.{goes}
-use Rattle.pw_top.specs.working.Delivery.{Delivered, LineEnds}
-use Rattle.pw_top.specs.working.Ending.{Ends, IsEndOf, IsRefusal, PrepareCause, IsDeliverable}
-use Rattle.pw_top.specs.working.Ending.IsEndOf.{is_end}
-use Rattle.pw_top.specs.Following.{status_of}
+use Rattle.pw_top.specs.working.Ending.{Ends, IsDeliverable}
 use Rattle.pw_top.specs.Playing.{Happened, IsNothing, Idly, PlayEnds, PlayFollows, Plays}
-use Rattle.pw_top.specs.StatusLine.{has_line}
-use Rattle.pw_top.proofs.AllowedLemmas.{binds_stops, later, outcome_is}
+use Rattle.pw_top.proofs.AllowedLemmas.{binds_stops, outcome_is}
 
 -- nothing happened, and that may be so
 nothing_then : (outcome : Result Work Status) (h : Happened) (status : Status) → IsNothing h → PlayEnds outcome h (Err status)
@@ -40,7 +44,7 @@ module _ {T : Type 0} (P : Expected T → Type 0) (next : T → Answer → Type 
   plays_goes x r f p = record {
     answer = gone_on f.answer.loads p.answer;
     allowed = goes f.answer x p.answer f.allowed (outcome_is f.answer x f.ends) p.allowed refl;
-    ends = later f.answer.loads p.answer r p.ends;
+    ends = later statuses f.answer.loads p.answer r p.ends;
     played = p.played;
   }
 
@@ -58,15 +62,10 @@ pub plays_not : (P : Answer → Type 0) (h : Happened) (status : Status) → End
 plays_not P h status e n =
     record { answer = e.answer; allowed = e.allowed; ends = e.ends; played = nothing_then e.answer.outcome h status n }
 
--- BY THE STATUS: it is that of what was prepared or delivered, or memory was short for its line
-pub either_end : (b : Bool) (mid status : Status) (A B C : Type 0) → MatchBool b (((status ≡ mid) × A) ⊎ ((status ≡ S.Memory) × B)) ((status ≡ mid) × C)
-    → (status ≡ mid) ⊎ (status ≡ S.Memory)
-either_end true mid status A B C (inl x) = inl x.0
-either_end true mid status A B C (inr x) = inr x.0
-either_end false mid status A B C x = inl x.0
-
+-- BY THE STATUS, once what was made is finished
 module _ (outcome : Result Work Status) (h : Happened) where
-  refusal_played : (f f' : ℕ) (r : Status) → IsRefusal f f' r → PlayEnds outcome h (Err r) → PlayFollows outcome h r × PlayFollows outcome h S.Memory
+  refusal_played : (f f' : ℕ) (r : Status) → IsRefusal f f' (means r) → PlayEnds outcome h (Err r)
+      → PlayFollows outcome h r × PlayFollows outcome h S.Memory
   refusal_played f f' S.Ok c p = absurd c
   refusal_played f f' (S.Usage w) c p = (p, inl p)
   refusal_played f f' (S.Absent w) c p = (p, inl p)
@@ -75,33 +74,36 @@ module _ (outcome : Result Work Status) (h : Happened) where
   refusal_played f f' (S.Pod w v) c p = (p, inl p)
   refusal_played f f' (S.Limit w v) c p = (p, inl p)
   refusal_played f f' (S.ReadFault w) c p = (p, inl p)
-  refusal_played f f' (S.WriteFault w) c p = absurd c
+  refusal_played f f' (S.WriteFault zero) c p = absurd c
+  refusal_played f f' (S.WriteFault (suc n)) c p = absurd c
   refusal_played f f' S.Memory c p = (p, p)
 
-  followed : (mid status : Status) → PlayFollows outcome h mid → PlayFollows outcome h S.Memory → (status ≡ mid) ⊎ (status ≡ S.Memory)
-      → PlayFollows outcome h status
-  followed mid status p m (inl e) = subst (PlayFollows outcome h) (sym e) p
-  followed mid status p m (inr e) = subst (PlayFollows outcome h) (sym e) m
+  work_played : (b n : Outside) (status : Status) → status_of outcome ≡ S.Ok → IsWorkEnd b n (means status) → PlayFollows outcome h status
+  work_played b n S.Ok ok e = ok
+  work_played b n (S.WriteFault place) ok e = ok
+  work_played b n S.Memory ok e = inr ok
+  work_played b n (S.Usage w) ok e = absurd e
+  work_played b n (S.Absent w) ok e = absurd e
+  work_played b n (S.Script w v) ok e = absurd e
+  work_played b n (S.Wav w v) ok e = absurd e
+  work_played b n (S.Pod w v) ok e = absurd e
+  work_played b n (S.Limit w v) ok e = absurd e
+  work_played b n (S.ReadFault w) ok e = absurd e
 
-module _ (a : Answer) (h : Happened) (s s' p p1 p' : ℕ) (hl hl' : Held) (g g1 g' : Given) where
-  delivered_played : (w : Work) → status_of a.outcome ≡ S.Ok → (mid status : Status) → Delivered (Ok w) s s' p p1 hl hl' g g1 mid
-      → (status ≡ mid) ⊎ (status ≡ S.Memory) → PlayFollows a.outcome h status
-  delivered_played w ok S.Ok status d e = followed a.outcome h S.Ok status ok (inr ok) e
-  delivered_played w ok (S.WriteFault place) status d e = followed a.outcome h (S.WriteFault place) status ok (inr ok) e
-  delivered_played w ok S.Memory status d e = followed a.outcome h S.Memory status (inr ok) (inr ok) e
-  delivered_played w ok (S.Usage n) status d e = absurd d
-  delivered_played w ok (S.Absent n) status d e = absurd d
-  delivered_played w ok (S.Script n v) status d e = absurd d
-  delivered_played w ok (S.Wav n v) status d e = absurd d
-  delivered_played w ok (S.Pod n v) status d e = absurd d
-  delivered_played w ok (S.Limit n v) status d e = absurd d
-  delivered_played w ok (S.ReadFault n) status d e = absurd d
+-- the status of a refusal is its own, or memory was short for its line
+pub line_end : (r : Status) (before now : ℕ) (old new : Given) (status : Status) → LineEnds statuses r before now old new status
+    → (status ≡ r) ⊎ (status ≡ S.Memory)
+line_end r before now old new status (inl x) = inl x.0
+line_end r before now old new status (inr x) = inr (one_memory status x.0)
 
-  pub run_played : (made : Result Work Status) (f f' : ℕ) (mid status : Status) → PrepareCause IsDeliverable f f' made → IsEndOf a made
-      → PlayEnds a.outcome h made → Delivered made s s' p p1 hl hl' g g1 mid → LineEnds mid p1 p' g1 g' status → PlayFollows a.outcome h status
-  run_played (Ok w) f f' mid status c (is_end m) q d e = delivered_played w (ap status_of m) mid status d
-      (either_end (has_line mid) mid status _ _ _ e)
-  run_played (Err r) f f' mid status c m q d e =
-      let both = refusal_played a.outcome h f f' r c q in
-      followed a.outcome h r status both.0 both.1
-      (either_end (has_line r) r status _ _ _ (subst (λ x. LineEnds x p1 p' g1 g' status) d.0 e))
+followed : (outcome : Result Work Status) (h : Happened) (r status : Status) → PlayFollows outcome h r × PlayFollows outcome h S.Memory
+    → (status ≡ r) ⊎ (status ≡ S.Memory) → PlayFollows outcome h status
+followed outcome h r status both (inl e) = subst (PlayFollows outcome h) (sym e) both.0
+followed outcome h r status both (inr e) = subst (PlayFollows outcome h) (sym e) both.1
+
+pub run_played : (a : Answer) (h : Happened) (b n : Outside) (made : Result Work Status) (f f' : ℕ) (status : Status)
+    → PrepareCause statuses IsDeliverable f f' made → IsEndOf statuses a made
+    → PlayEnds a.outcome h made → Finished statuses made b n status → PlayFollows a.outcome h status
+run_played a h b n (Ok w) f f' status c (is_end m) q d = work_played a.outcome h b n status (ap status_of m) d.end
+run_played a h b n (Err r) f f' status c m q d = followed a.outcome h r status (refusal_played a.outcome h f f' r c q)
+    (line_end r b.put_faults n.put_faults b.given n.given status d.1)

@@ -1,5 +1,5 @@
 -- Laws of `specs/PodFile.antt`: what a read POD says of the file that held it.
-use Rattle.std.proofs.Common.{◌≡◌, ℕ, ◌≤◌, ◌<◌, List, length, true, [], refl, sym, ap, subst, inl, inr, ⊎_elim, arith, ◌∙◌}
+use Rattle.std.proofs.Common.{◌≡◌, ℕ, ◌≤◌, ◌<◌, List, length, [], refl, sym, ap, subst, inl, inr, ⊎_elim, arith, ◌∙◌}
 use Rattle.std.specs.Prelude.{◌⊎◌, Result, Ok, Err}
 use Rattle.pod_codec.specs.declared.pod.Pod.{Pod}
 use Rattle.pod_codec.specs.declared.fault.PodFault.{PodFault}
@@ -10,7 +10,9 @@ use Rattle.pod_codec.proofs.PodReadings.{front_fits}
 use Rattle.run_results.specs.declared.status.Status.{Status}
 use Rattle.run_results.specs.declared.status.Status.TheVariants as S
 use Rattle.run_results.specs.declared.status.PodWhy.TheVariants as P
-use Rattle.pw_top.specs.working.Ending.{Ends, is_plain}
+use Rattle.command_frame.proofs.AllowedLemmas.{IsPlain}
+use Rattle.run_results.specs.Statuses.{means}
+use Rattle.pw_top.specs.working.Ending.{Ends}
 use Rattle.pw_top.specs.Allowed.{Reads}
 use Rattle.pw_top.specs.PodFile.{pod_refusal, HoldsPod, HoldsAs}
 use Rattle.pw_top.proofs.AllowedLemmas.{part_gives, part_refuses, part_memory, part_more, reads_gives, reads_refuses}
@@ -26,17 +28,17 @@ pub read_rest : (place : ℕ) (bytes : List ℕ) (pod : Pod) (size : ℕ) → Fr
 read_rest place bytes pod size h n =
     let within : size ≤ length bytes = (front_fits bytes pod size h).0 in
     let less : size < length bytes = grind (arith, within, n) in
-    part_refuses [] (HoldsPod place bytes) (S.Pod place (P.Rest size)) (inr (pod, size, h, less, refl)) refl
+    part_refuses [] (HoldsPod place bytes) (S.Pod place (P.Rest size)) (inr (pod, size, h, less, refl)) tt
 
-plain : (place : ℕ) (fault : PodFault) → is_plain (pod_refusal place fault) ≡ true
-plain place (F.Short o) = refl
-plain place (F.TypeUnknown o n) = refl
-plain place (F.Size o) = refl
-plain place (F.Uneven o) = refl
-plain place (F.Deep o) = refl
-plain place (F.Large o) = refl
-plain place (F.Nul o) = refl
-plain place F.Memory = refl
+plain : (place : ℕ) (fault : PodFault) → IsPlain (means (pod_refusal place fault))
+plain place (F.Short o) = tt
+plain place (F.TypeUnknown o n) = tt
+plain place (F.Size o) = tt
+plain place (F.Uneven o) = tt
+plain place (F.Deep o) = tt
+plain place (F.Large o) = tt
+plain place (F.Nul o) = tt
+plain place F.Memory = tt
 
 -- a first fault, or lack of memory
 pub refused : (place : ℕ) (bytes : List ℕ) (fault : PodFault) (status : Status) → status ≡ pod_refusal place fault
@@ -45,7 +47,7 @@ refused place bytes fault status e (inl memory) =
     subst (λ s. Ends (Reads (HoldsPod place bytes)) (Err s)) (sym (e ∙ ap (pod_refusal place) memory))
     (part_memory [] (HoldsPod place bytes))
 refused place bytes fault status e (inr h) =
-    part_refuses [] (HoldsPod place bytes) status (inl (fault, h, e)) (ap is_plain e ∙ plain place fault)
+    part_refuses [] (HoldsPod place bytes) status (inl (fault, h, e)) (subst (λ s. IsPlain (means s)) (sym e) (plain place fault))
 
 -- the file holds a value, which is read
 module _ {T : Type 0} (As : Pod → Result T Status → Type 0) (place : ℕ) (bytes : List ℕ) where

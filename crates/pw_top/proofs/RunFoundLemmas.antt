@@ -10,7 +10,7 @@ use Rattle.pw_top.specs.declared.planned.Planned.{Planned}
 use Rattle.pw_top.specs.Groups.{PartsFile}
 use Rattle.pw_top.specs.RunFound.{IsFoundOfPlan, parts_found, IsFoundByRun, IsFoundByGroups}
 use Rattle.pw_top.specs.ScriptFile.{PlansFile}
-use Rattle.pw_top.specs.working.Preparing.{Tells}
+use Rattle.pw_top.specs.working.Ending.{Tells}
 use Rattle.pw_top.proofs.FoundLemmas.{part_gives_it, ok_then}
 
 module _ (held : Held) (script : List ℕ) (what : What) (r : Result Work Status) where

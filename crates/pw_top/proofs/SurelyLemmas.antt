@@ -1,18 +1,20 @@
 -- Laws of `specs/Surely.antt`: where no count rises, what a status says is all of the answer.
-use Rattle.std.proofs.Common.{◌≡◌, ℕ, zero, suc, subst, refl, sym, ap, inl, inr, List, ◌∙◌, arith, ◌++◌}
+use Rattle.std.proofs.Common.{◌≡◌, ℕ, zero, suc, subst, refl, sym, ap, inl, inr, List, ◌∙◌, arith, ◌++◌, append-nil}
 use Rattle.std.specs.Prelude.{◌⊎◌, [], take, Some, unwrap_or, Result, Ok, Err}
 use Rattle.pw_outside.specs.Files.{Names}
-use Rattle.pw_outside.specs.Output.{Given, GavePart}
 use Rattle.pw_outside.specs.Causes.{Rose}
+use Rattle.command_frame.specs.declared.ending.End.TheVariants as E
+use Rattle.command_frame.specs.declared.work.Work.{Work}
+use Rattle.command_frame.specs.FaultCauses.{Caused}
+use Rattle.command_frame.specs.Following.{stores_of, text_of, GaveLine, FilesFollow}
+use Rattle.command_frame.specs.Headline.{Follows}
+use Rattle.command_frame.specs.Outside.{Outside}
+use Rattle.command_frame.specs.Stores.{stored_all}
 use Rattle.run_results.specs.declared.status.Status.{Status}
 use Rattle.run_results.specs.declared.status.Status.TheVariants as S
-use Rattle.command_frame.specs.declared.work.Work.{Work}
-use Rattle.pw_top.specs.Answer.{Answer}
-use Rattle.pw_top.specs.Following.{status_of, stores_of, stored_all, text_of, AllStored, CutAt, GaveLine}
-use Rattle.pw_top.specs.FaultCauses.{Caused}
-use Rattle.pw_top.specs.Headline.{Follows}
-use Rattle.pw_top.specs.Outside.{Outside}
-use Rattle.pw_top.specs.StatusLine.{line_of}
+use Rattle.run_results.specs.StatusLine.{line_of}
+use Rattle.run_results.specs.Statuses.{statuses}
+use Rattle.pw_top.specs.Answer.{Answer, status_of}
 use Rattle.pw_top.specs.Surely.{output_of, IsDone, IsCutShort, EndsSurely}
 
 -- what objects that never fail show
@@ -59,34 +61,31 @@ module _ (a : Answer) (names names' : Names) (given given' : List ℕ) where
   }
 
   -- the first stores are whole, since none was cut by a fault
-  whole_stores : ((i : ℕ) × AllStored (take i (stores_of a.outcome)) (Some names) (Some names'))
-      ⊎ ((place : ℕ) × CutAt (stores_of a.outcome) place (Some names) (Some names') × Rose 0 0)
+  whole_stores : FilesFollow statuses (stores_of a.outcome) (text_of a.outcome) 0 0 (Some names) (Some names') E.Memory
       → (i : ℕ) × (names' ≡ stored_all (take i (stores_of a.outcome)) names)
-  whole_stores (inl x) = (x.0, some_is x.1)
-  whole_stores (inr x) = absurd (never_rose x.2)
+  whole_stores (inl same) = (0, some_is same)
+  whole_stores (inr (inl short)) = (short.before, some_is short.held)
+  whole_stores (inr (inr line)) = absurd (never_rose line.rose)
 
-  -- and a prefix of the text, before the line of the status or nothing
-  text_put : (kept : ℕ) (mid : List ℕ) → mid ≡ given ++ take kept (text_of a.outcome)
-      → (Some given' ≡ Some mid) ⊎ GaveLine (line_of S.Memory) 0 0 (Some mid) (Some given')
-      → (given' ≡ given ++ take kept (text_of a.outcome)) ⊎ (given' ≡ (given ++ take kept (text_of a.outcome)) ++ line_of S.Memory)
-  text_put kept mid is (inl e) = inl (some_is e ∙ is)
-  text_put kept mid is (inr g) = inr (line_given (line_of S.Memory) mid given' g ∙ ap (λ (t : List ℕ). t ++ line_of S.Memory) is)
+  -- and nothing of the text was put before the line of the status, or nothing at all
+  line_or_nothing : (Some given' ≡ Some given) ⊎ GaveLine (line_of S.Memory) 0 0 (Some given) (Some given')
+      → (given' ≡ given ++ []) ⊎ (given' ≡ (given ++ []) ++ line_of S.Memory)
+  line_or_nothing (inl same) = inl (some_is same ∙ sym (append-nil given))
+  line_or_nothing (inr line) = inr (line_given (line_of S.Memory) given given' line
+      ∙ ap (λ (t : List ℕ). t ++ line_of S.Memory) (sym (append-nil given)))
 
-  cut_short : ((i : ℕ) × AllStored (take i (stores_of a.outcome)) (Some names) (Some names'))
-      ⊎ ((place : ℕ) × CutAt (stores_of a.outcome) place (Some names) (Some names') × Rose 0 0)
-      → ((mid : Given) × GavePart (text_of a.outcome) (Some given) mid
-      × ((Some given' ≡ mid) ⊎ GaveLine (line_of S.Memory) 0 0 mid (Some given')))
+  cut_short : FilesFollow statuses (stores_of a.outcome) (text_of a.outcome) 0 0 (Some names) (Some names') E.Memory
+      → (Some given' ≡ Some given) ⊎ GaveLine (line_of S.Memory) 0 0 (Some given) (Some given')
       → IsCutShort a names names' given given'
-  cut_short files text = let s = whole_stores files in let kept = text.1.0 in record {
+  cut_short files text = let s = whole_stores files in record {
     stores = s.0;
     files = s.1;
-    kept = kept;
-    text = text_put kept (given ++ take kept (text_of a.outcome)) refl
-        (subst (λ (m : Given). (Some given' ≡ m) ⊎ GaveLine (line_of S.Memory) 0 0 m (Some given')) text.1.1 text.2);
+    kept = 0;
+    text = line_or_nothing text;
   }
 
-  pub ends : (status : Status) → Follows a (sure names given) (sure names' given') status
-      → Caused (sure names given) (sure names' given') status → EndsSurely a names names' given given' status
+  pub ends : (status : Status) → Follows statuses a (sure names given) (sure names' given') status
+      → Caused statuses (sure names given) (sure names' given') status → EndsSurely a names names' given given' status
   ends S.Ok f c = inl (record {
     status_is = sym f.stop;
     files = some_is f.files;
@@ -98,7 +97,7 @@ module _ (a : Answer) (names names' : Names) (given given' : List ℕ) where
   ends (S.Pod n why) f c = inl (refused_done (S.Pod n why) tt f.stop f.files f.text)
   ends (S.Absent n) f c = inl (refused_done (S.Absent n) tt f.stop f.files f.text)
   ends (S.ReadFault n) f c = absurd (never_rose c)
-  ends (S.WriteFault zero) f c = absurd (never_rose (c.0 refl))
-  ends (S.WriteFault (suc n)) f c = absurd (never_rose (c.1 (λ e. grind (arith, e))))
+  ends (S.WriteFault zero) f c = absurd (never_rose c)
+  ends (S.WriteFault (suc n)) f c = absurd (never_rose c)
   ends (S.Limit n which) f c = inl (refused_done (S.Limit n which) tt f.stop f.files f.text)
   ends S.Memory f c = inr (refl, cut_short f.files f.text)

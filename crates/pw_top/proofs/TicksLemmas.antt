@@ -2,35 +2,35 @@
 use Rattle.std.proofs.Common.{◌≡◌, ◌≤◌, ℕ, Bool, true, false, cond, List, [], ◌∷◌, length, get_or, map, refl, sym, arith, codes}
 use Rattle.std.specs.Prelude.{bytes_eq, Option, Some, None, Result, Ok, Err}
 use Rattle.graph_script.specs.Arguments.{number_of}
-use Rattle.run_results.specs.declared.status.Status.{Status}
+use Rattle.command_frame.specs.Words.{Words}
 use Rattle.pw_top.specs.declared.usage.CommandLine.{CommandLine}
 use Rattle.pw_top.specs.declared.usage.FileWords.{FileWords}
 use Rattle.pw_top.specs.declared.usage.FilePair.{FilePair}
-use Rattle.pw_top.specs.Usage.{Words, dump_of, filter_of, automate_of, check_of, soak_with, soak_of, groups_of, command_of, ticks_in}
+use Rattle.pw_top.specs.Usage.{dump_of, filter_of, automate_of, check_of, soak_with, soak_of, groups_of, command_of, ticks_in}
 
-either : (b : Bool) (x y : Result CommandLine Status) → ticks_in x ≡ 0 → ticks_in y ≡ 0 → ticks_in (cond b x y) ≡ 0
+either : (b : Bool) (x y : Result CommandLine ℕ) → ticks_in x ≡ 0 → ticks_in y ≡ 0 → ticks_in (cond b x y) ≡ 0
 either true x y h k = h
 either false x y h k = k
 
-of_dump : (r : Result (List ℕ) Status) → ticks_in (dump_of r) ≡ 0
+of_dump : (r : Result (List ℕ) ℕ) → ticks_in (dump_of r) ≡ 0
 of_dump (Ok file) = refl
-of_dump (Err status) = refl
+of_dump (Err word) = refl
 
-of_filter : (r : Result FileWords Status) → ticks_in (filter_of r) ≡ 0
+of_filter : (r : Result FileWords ℕ) → ticks_in (filter_of r) ≡ 0
 of_filter (Ok w) = refl
-of_filter (Err status) = refl
+of_filter (Err word) = refl
 
-of_automate : (r : Result FileWords Status) → ticks_in (automate_of r) ≡ 0
+of_automate : (r : Result FileWords ℕ) → ticks_in (automate_of r) ≡ 0
 of_automate (Ok w) = refl
-of_automate (Err status) = refl
+of_automate (Err word) = refl
 
-of_check : (r : Result FilePair Status) → ticks_in (check_of r) ≡ 0
+of_check : (r : Result FilePair ℕ) → ticks_in (check_of r) ≡ 0
 of_check (Ok w) = refl
-of_check (Err status) = refl
+of_check (Err word) = refl
 
-of_groups : (r : Result (List ℕ) Status) → ticks_in (groups_of r) ≡ 0
+of_groups : (r : Result (List ℕ) ℕ) → ticks_in (groups_of r) ≡ 0
 of_groups (Ok script) = refl
-of_groups (Err status) = refl
+of_groups (Err word) = refl
 
 with_number : (n : Option ℕ) (rest : Words) → ticks_in (soak_with n rest) ≡ 0
 with_number None rest = refl

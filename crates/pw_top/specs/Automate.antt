@@ -20,7 +20,7 @@ use Rattle.run_results.specs.declared.status.Status.TheVariants as S
 use Rattle.run_results.specs.declared.status.PodWhy.TheVariants as P
 use Rattle.command_frame.specs.declared.work.Content.TheVariants.{Wave}
 use Rattle.command_frame.specs.declared.work.Work.{Work}
-use Rattle.pw_top.specs.StatusLine.{numbers_line}
+use Rattle.run_results.specs.StatusLine.{numbers_line}
 use Rattle.pw_top.specs.Answer.{Answer}
 use Rattle.pw_top.specs.Allowed.{Binds, Reads, IsLoad}
 use Rattle.pw_top.specs.Refusals.{wave_outcome}

@@ -1,13 +1,15 @@
 -- The expected answer of a command line: that of its command, or the refusal of its words.
 -- Source: this project's own; docs/FORMATS.md.
-use Rattle.std.specs.Prelude.{◌≡◌, Result, Ok, Err}
+use Rattle.std.specs.Prelude.{◌≡◌, ℕ, Result, Ok, Err}
 use Rattle.pw_outside.specs.Files.{Names}
-use Rattle.run_results.specs.declared.status.Status.{Status}
+use Rattle.run_results.specs.declared.status.Status.TheVariants as S
+use Rattle.command_frame.specs.Answer.{refused}
+use Rattle.command_frame.specs.Words.{Words}
 use Rattle.pw_top.specs.declared.usage.CommandLine.{CommandLine}
 use Rattle.pw_top.specs.declared.usage.CommandLine.TheVariants as C
-use Rattle.pw_top.specs.Answer.{Answer, refused}
+use Rattle.pw_top.specs.Answer.{Answer}
 use Rattle.pw_top.specs.Playing.{Happened, Idly}
-use Rattle.pw_top.specs.Usage.{Words, command_of}
+use Rattle.pw_top.specs.Usage.{command_of}
 use Rattle.pw_top.specs.Run.{IsRunAnswer}
 use Rattle.pw_top.specs.Dump.{IsDumpAnswer}
 use Rattle.pw_top.specs.Filter.{IsFilterAnswer}
@@ -26,9 +28,9 @@ IsAnswerTo (C.Check c) h names = Idly (IsCheckAnswer names c.script c.trace) h
 IsAnswerTo (C.Soak c) h names = IsSoakAnswer c.number h
 IsAnswerTo (C.Groups c) h names = IsGroupsAnswer c h names
 
-abbrev pub IsReadAnswer : Result CommandLine Status → Happened → Names → Answer → Type 0
+abbrev pub IsReadAnswer : Result CommandLine ℕ → Happened → Names → Answer → Type 0
 IsReadAnswer (Ok command) h names a = IsAnswerTo command h names a
-IsReadAnswer (Err status) h names a = a ≡ refused status
+IsReadAnswer (Err word) h names a = a ≡ refused (S.Usage word)
 
 -- AN EXPECTED ANSWER of a command line, by what happened in the call and by what the files hold
 unfoldable pub IsAnswer : Words → Happened → Names → Answer → Type 0

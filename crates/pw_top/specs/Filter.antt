@@ -16,7 +16,7 @@ use Rattle.run_results.specs.declared.status.Status.{Status}
 use Rattle.run_results.specs.declared.status.Status.TheVariants as S
 use Rattle.command_frame.specs.declared.work.Content.TheVariants.{Bytes}
 use Rattle.command_frame.specs.declared.work.Work.{Work}
-use Rattle.pw_top.specs.StatusLine.{numbers_line}
+use Rattle.run_results.specs.StatusLine.{numbers_line}
 use Rattle.pw_top.specs.Answer.{Answer}
 use Rattle.pw_top.specs.Allowed.{Binds, Reads, IsLoad}
 use Rattle.pw_top.specs.PodFile.{pod_file_limit}

@@ -7,8 +7,9 @@ use Rattle.run_results.specs.declared.found.What.TheVariants.{Nothing}
 use Rattle.run_results.specs.declared.status.Status.{Status}
 use Rattle.run_results.specs.declared.status.Status.TheVariants as S
 use Rattle.command_frame.specs.declared.work.Work.{Work}
+use Rattle.command_frame.specs.Words.{Words}
 use Rattle.pw_top.specs.ScriptFound.{IsScriptOf}
-use Rattle.pw_top.specs.Usage.{Words, command_of}
+use Rattle.pw_top.specs.Usage.{command_of}
 use Rattle.pw_top.specs.WhatFound.{IsWhat}
 use Rattle.pw_top.specs.WorkFound.{work_in}
 

@@ -6,10 +6,8 @@ pub mod CheckFound
 pub mod CommandLine
 pub mod Crews
 pub mod Dump
-pub mod FaultCauses
 pub mod Filter
 pub mod FilterFound
-pub mod Following
 pub mod FormatFile
 pub mod Found
 pub mod Groups
@@ -20,7 +18,6 @@ pub mod Loads
 pub mod Narrowing
 pub mod OneAnswer
 pub mod Options
-pub mod Outside
 pub mod PartsAlone
 pub mod PlannedWork
 pub mod Playing
@@ -33,7 +30,6 @@ pub mod ScriptFile
 pub mod ScriptFound
 pub mod SinkStores
 pub mod Soak
-pub mod StatusLine
 pub mod PlanInputs
 pub mod Surely
 pub mod Usage

@@ -1,23 +1,23 @@
 -- Two answers of one command line, by whatever happened in two calls: the same but for event lines.
 -- Source: this project's own.
-use Rattle.std.specs.Prelude.{◌≡◌, ◌⊎◌, Bool, true, false, List, Some, Result, Ok, Err}
+use Rattle.std.specs.Prelude.{◌≡◌, ◌⊎◌, ℕ, Bool, true, false, List, Some, Result, Ok, Err}
 use Rattle.pw_graph.specs.declared.event.Event.{Event}
 use Rattle.pw_graph.specs.declared.plan.Plan.{Plan}
 use Rattle.pw_outside.specs.Files.{Names}
 use Rattle.wav_files.specs.declared.outcome.Outcome.{Outcome}
 use Rattle.cycle_trace.specs.RunText.{run_text_of}
-use Rattle.run_results.specs.declared.status.Status.{Status}
 use Rattle.run_results.specs.declared.status.Status.TheVariants as S
+use Rattle.command_frame.specs.declared.work.Work.{Work}
+use Rattle.command_frame.specs.Words.{Words}
 use Rattle.pw_top.specs.declared.usage.CommandLine.{CommandLine}
 use Rattle.pw_top.specs.declared.usage.CommandLine.TheVariants as C
-use Rattle.command_frame.specs.declared.work.Work.{Work}
 use Rattle.pw_top.specs.Answer.{Answer}
 use Rattle.pw_top.specs.CommandLine.{IsAnswer}
 use Rattle.pw_top.specs.Playing.{Happened}
-use Rattle.pw_top.specs.Usage.{Words, command_of}
+use Rattle.pw_top.specs.Usage.{command_of}
 
 -- event lines are wanted
-abbrev pub is_traced : Result CommandLine Status → Bool
+abbrev pub is_traced : Result CommandLine ℕ → Bool
 is_traced (Ok (C.Run c)) = c.trace
 is_traced other = false
 

@@ -8,15 +8,15 @@ use Rattle.pw_outside.specs.Files.{Names, Held, names_in}
 use Rattle.wav_files.specs.declared.wav.WavIn.{WavIn}
 use Rattle.board_rule.specs.declared.closed.Closed.{Closed}
 use Rattle.graph_run.specs.PlanRun.{IsRunOf}
+use Rattle.command_frame.specs.declared.work.Work.{Work}
+use Rattle.command_frame.specs.Ending.{IsEndOf}
 use Rattle.pw_top.specs.declared.played.Played.{Played}
 use Rattle.pw_top.specs.declared.playing.Crew.{Crew}
 use Rattle.run_results.specs.declared.status.Status.{Status}
 use Rattle.run_results.specs.declared.status.Status.TheVariants as S
-use Rattle.command_frame.specs.declared.work.Work.{Work}
-use Rattle.pw_top.specs.Answer.{Answer}
+use Rattle.run_results.specs.Statuses.{statuses}
+use Rattle.pw_top.specs.Answer.{Answer, status_of}
 use Rattle.pw_top.specs.Crews.{seat_in, seats_beside}
-use Rattle.pw_top.specs.working.Ending.{IsEndOf}
-use Rattle.pw_top.specs.Following.{status_of}
 
 -- the events and the closed boards that are reported, and the ticker's counts before and after
 pub record Happened : Type 0 where
@@ -67,7 +67,7 @@ PlayEnds outcome h (Err status) = IsNothing h
 pub record Plays (P : Answer → Type 0) (h : Happened) (r : Result Work Status) : Type 0 where
   pub answer : Answer
   pub allowed : P answer
-  pub ends : IsEndOf answer r
+  pub ends : IsEndOf statuses answer r
   pub played : PlayEnds answer.outcome h r
 
 -- where the files report what they hold

@@ -24,11 +24,6 @@ EndsAtLoad place _ = ⊥
 abbrev pub WasStored : Held → List ℕ → List ℕ → Type 0
 WasStored held name bytes = IsSome held → names_in held name ≡ Some bytes
 
--- A LOAD at this place gave the bytes that were stored, or ends the command
-abbrev pub IsRead : Held → ℕ → List ℕ → Result (List ℕ) Status → Type 0
-IsRead held place name (Ok bytes) = WasStored held name bytes
-IsRead held place name (Err status) = EndsAtLoad place status
-
 -- OF A SCRIPT under this name, by how the command ends: its bytes; or none, which is only so after a
 -- status that their load may end with
 abbrev pub IsScriptUnder : Held → List ℕ → Status → Option (List ℕ) → Type 0
@@ -43,6 +38,6 @@ IsScriptBy (C.Groups c) held status script = IsScriptUnder held c.script status 
 IsScriptBy command held status script = script ≡ None
 
 -- of words; those that are no command line read none
-abbrev pub IsScriptOf : Result CommandLine Status → Held → Status → Option (List ℕ) → Type 0
+abbrev pub IsScriptOf : Result CommandLine ℕ → Held → Status → Option (List ℕ) → Type 0
 IsScriptOf (Ok command) held status script = IsScriptBy command held status script
-IsScriptOf (Err refusal) held status script = script ≡ None
+IsScriptOf (Err word) held status script = script ≡ None

@@ -5,12 +5,13 @@ use Rattle.pw_outside.specs.Files.{Names}
 use Rattle.run_results.specs.declared.status.Status.{Status}
 use Rattle.run_results.specs.declared.status.Status.TheVariants as S
 use Rattle.command_frame.specs.declared.work.Work.{Work}
-use Rattle.pw_top.specs.Answer.{Answer}
+use Rattle.command_frame.specs.Following.{stores_of, text_of}
+use Rattle.command_frame.specs.Stores.{stored_all}
+use Rattle.command_frame.specs.Words.{Words}
+use Rattle.pw_top.specs.Answer.{Answer, status_of}
 use Rattle.pw_top.specs.CommandLine.{IsAnswer}
-use Rattle.pw_top.specs.Following.{status_of, stores_of, stored_all, text_of}
 use Rattle.pw_top.specs.Playing.{Happened, PlayFollows}
-use Rattle.pw_top.specs.StatusLine.{line_of}
-use Rattle.pw_top.specs.Usage.{Words}
+use Rattle.run_results.specs.StatusLine.{line_of}
 
 -- what is given at the end: the text, or the line of a refusal
 abbrev pub output_of : Result Work Status → List ℕ

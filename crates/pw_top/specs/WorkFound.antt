@@ -5,7 +5,7 @@ use Rattle.pw_outside.specs.Output.{Given, Gave}
 use Rattle.run_results.specs.declared.status.Status.{Status}
 use Rattle.run_results.specs.declared.status.Status.TheVariants as S
 use Rattle.command_frame.specs.declared.work.Work.{Work}
-use Rattle.pw_top.specs.Following.{AllStored}
+use Rattle.command_frame.specs.Stores.{AllStored}
 
 -- work was found, and all of it was stored and put: files and output before and after
 pub record IsDone (held held' : Held) (given given' : Given) (found : Option Work) : Type 0 where

@@ -2,12 +2,10 @@
 #![tactic(auto)]
 
 mod commands;
-mod delivering;
 mod format_file;
 mod inputs;
 mod joined;
 mod loaded_script;
-mod loading;
 mod loads;
 mod one_answer;
 mod options;
@@ -22,7 +20,6 @@ mod points_file;
 mod preparing;
 mod refused;
 mod script_loads;
-mod status_line;
 mod surely;
 mod top;
 mod usage;

@@ -7,16 +7,16 @@ ghost use Rattle.graph_script.specs.Grammar.{script_of};
 ghost use Rattle.graph_script.specs.Kinds.{HasKinds};
 ghost use Rattle.graph_script.specs.Order.{HasOrder};
 ghost use Rattle.graph_script.specs.Ranges.{HasRanges};
+ghost use Rattle.command_frame.specs.Preparing.{LoadsOnly};
 ghost use Rattle.pw_top.specs.Allowed.{Reads};
-ghost use Rattle.pw_top.specs.working.Ending.{Ends, CommandCause};
-ghost use Rattle.pw_top.specs.working.Preparing.{LoadsOnly, Tells};
+ghost use Rattle.pw_top.specs.working.Ending.{Ends, CommandCause, Tells};
 ghost use Rattle.pw_top.specs.Refusals.{script_outcome};
 ghost use Rattle.pw_top.specs.ScriptFile.{LoadsInputs, ReadsScript, LoadsScript, IsLoadedScript};
 ghost use Rattle.pw_top.specs.ScriptFound.{end_of, IsScriptUnder};
 
 use crate::inputs::PlanInputs;
-use crate::loading::load_step;
 use crate::script_loads::load_all;
+use command_frame::load_step;
 use graph_script::{Script, ScriptFault, parse};
 use pw_lists::{Items, SCRIPT_BYTES_LIMIT, Text, Which};
 use pw_outside::Files;
@@ -46,14 +46,11 @@ pub fn load_script<F: Files>(
     ensures cause { CommandCause IsLoadedScript (F.load_faults files.old)
         (F.load_faults files.new) result }
 {
-    match load_step(
-        alloc,
-        files,
-        0,
-        script,
-        SCRIPT_BYTES_LIMIT,
-        Which::ScriptBytes,
-    ) {
+    let long = Status::Limit {
+        place: 0,
+        which: Which::ScriptBytes,
+    };
+    match load_step(alloc, files, 0, script, SCRIPT_BYTES_LIMIT, long) {
         Err(status) => Err(status),
         Ok(bytes) => {
             let loaded = load_read(alloc, files, &bytes);

@@ -11,9 +11,9 @@ ghost use Rattle.graph_script.specs.Kinds.{made_by};
 ghost use Rattle.port_model.specs.Narrowing.{Narrows};
 ghost use Rattle.port_model.specs.Offers.{HasFileNumbers};
 ghost use Rattle.port_model.specs.PortState.{IsPort};
+ghost use Rattle.command_frame.specs.Preparing.{LoadsOnly};
 ghost use Rattle.pw_top.specs.Allowed.{Reads};
-ghost use Rattle.pw_top.specs.working.Ending.{Ends, CommandCause};
-ghost use Rattle.pw_top.specs.working.Preparing.{LoadsOnly, Tells};
+ghost use Rattle.pw_top.specs.working.Ending.{Ends, CommandCause, Tells};
 ghost use Rattle.script_inputs.specs.Inputs.{plain_kind};
 ghost use Rattle.script_inputs.specs.working.SoundInputs.{MayMake};
 ghost use Rattle.pw_top.specs.PlanInputs.{with_wave, with_plain, AreSoundInputs, AreInputsAfter};
@@ -22,9 +22,9 @@ ghost use Rattle.pw_top.specs.Loads.{ReadsOffer, LoadsOffer, LoadsLine};
 
 use crate::format_file::format_step;
 use crate::inputs::PlanInputs;
-use crate::loading::load_step;
 use crate::pod_file::POD_BYTES;
 use crate::wave_file::wave_step;
+use command_frame::load_step;
 use format_filter::Format;
 use graph_script::{Command, Line, kind_made};
 use port_model::Narrowed;
@@ -138,8 +138,11 @@ fn load_source<F: Files>(
         (F.load_faults files.new) result }
 {
     let limit = wav_limit(inputs.used);
-    let which = wav_which(inputs.used);
-    match load_step(alloc, files, place, file, limit, which) {
+    let long = Status::Limit {
+        place,
+        which: wav_which(inputs.used),
+    };
+    match load_step(alloc, files, place, file, limit, long) {
         Err(status) => Err(status),
         Ok(bytes) => source_loaded(alloc, place, node, &bytes, inputs),
     }
@@ -210,7 +213,11 @@ fn load_offer<F: Files>(
     ensures cause { CommandCause (AreInputsAfter inputs None) (F.load_faults files.old)
         (F.load_faults files.new) result }
 {
-    match load_step(alloc, files, place, file, POD_BYTES, Which::PodBytes) {
+    let long = Status::Limit {
+        place,
+        which: Which::PodBytes,
+    };
+    match load_step(alloc, files, place, file, POD_BYTES, long) {
         Err(status) => Err(status),
         Ok(bytes) => offer_loaded(alloc, place, port, &bytes, inputs),
     }

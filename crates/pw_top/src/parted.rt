@@ -5,9 +5,9 @@ ghost use Rattle.std.specs.Prelude.{◌≡◌, None};
 ghost use Rattle.graph_script.specs.Kinds.{HasKinds};
 ghost use Rattle.graph_script.specs.Making.{NamesMade};
 ghost use Rattle.graph_script.specs.Ranges.{HasRanges};
-ghost use Rattle.pw_top.specs.working.Ending.{Ends, CommandCause};
+ghost use Rattle.command_frame.specs.Preparing.{LoadsOnly};
+ghost use Rattle.pw_top.specs.working.Ending.{Ends, CommandCause, Tells};
 ghost use Rattle.pw_top.specs.Groups.{PartsInputs, PartsFile, CanBeGrouped};
-ghost use Rattle.pw_top.specs.working.Preparing.{LoadsOnly, Tells};
 ghost use Rattle.pw_top.specs.PlanInputs.{AreInputsOf};
 ghost use Rattle.pw_top.specs.ScriptFound.{end_of, IsScriptUnder};
 

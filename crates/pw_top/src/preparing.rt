@@ -1,7 +1,7 @@
 //! A command that runs nothing and finds nothing, up to its stores: what it loads, and what it
 //! gives then.
-ghost use Rattle.pw_top.specs.working.Ending.{CommandCause, IsDeliverable};
-ghost use Rattle.pw_top.specs.working.Preparing.{LoadsOnly, Tells};
+ghost use Rattle.command_frame.specs.Preparing.{LoadsOnly};
+ghost use Rattle.pw_top.specs.working.Ending.{CommandCause, IsDeliverable, Tells};
 
 use pw_outside::Files;
 use run_results::{Status, Work};

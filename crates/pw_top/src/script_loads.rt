@@ -6,8 +6,8 @@ ghost use Rattle.pw_lists.specs.Limits.{nodes_limit};
 ghost use Rattle.graph_script.specs.Making.{NamesMade};
 ghost use Rattle.graph_lines.specs.Start.{kinds_of};
 ghost use Rattle.graph_plan.specs.Conditions.{AreLinesOf};
-ghost use Rattle.pw_top.specs.working.Ending.{CommandCause};
-ghost use Rattle.pw_top.specs.working.Preparing.{LoadsOnly, Tells};
+ghost use Rattle.command_frame.specs.Preparing.{LoadsOnly};
+ghost use Rattle.pw_top.specs.working.Ending.{CommandCause, Tells};
 ghost use Rattle.pw_top.specs.PlanInputs.{nothing_loaded, AreInputsOf};
 ghost use Rattle.pw_top.specs.Loads.{LoadsAll};
 

@@ -1,24 +1,25 @@
 //! The top call.
 ghost use Rattle.std.specs.Prelude.{◌≡◌, ◌≤◌, map, string_bytes, OnOk};
-ghost use Rattle.pw_top.specs.working.Ending.{CommandCause, PrepareCause, IsDeliverable};
+ghost use Rattle.command_frame.specs.Ending.{PrepareCause};
+ghost use Rattle.command_frame.specs.Preparing.{LoadsOnly, IsPreparedUsage};
+ghost use Rattle.command_frame.specs.FaultCauses.{Caused, IsUsage};
+ghost use Rattle.command_frame.specs.Outside.{outside};
+ghost use Rattle.pw_top.specs.working.Ending.{CommandCause, IsDeliverable};
 ghost use Rattle.pw_top.specs.Playing.{happened, HasNothing, TellsPlay};
-ghost use Rattle.pw_top.specs.working.Preparing.{LoadsOnly};
 ghost use Rattle.pw_top.specs.Usage.{command_of, HasFewLoops};
 ghost use Rattle.pw_top.specs.CommandLine.{IsAnswerTo, IsAnswer};
-ghost use Rattle.pw_top.specs.FaultCauses.{Caused, IsUsage};
 ghost use Rattle.pw_top.specs.Found.{HasFoundNothing, IsFound, found_after};
-ghost use Rattle.pw_top.specs.Following.{status_of};
 ghost use Rattle.pw_top.specs.Headline.{IsTold, IsComplete, reported};
-ghost use Rattle.pw_top.specs.Outside.{outside};
+ghost use Rattle.run_results.specs.Statuses.{statuses};
 ghost use Rattle.pw_top.specs.ScriptFound.{end_of, IsScriptBy, IsScriptOf};
 ghost use Rattle.pw_top.specs.WhatFound.{IsWhatBy, IsWhatOf};
 ghost use Rattle.pw_top.specs.WorkFound.{IsWorkFound, work_in};
 
-use crate::delivering::{deliver, end_line};
 use crate::played::Played;
 use crate::preparing::Prepare;
 use crate::usage::{CommandLine, read_words};
 use board_rule::Closed;
+use command_frame::{Misread, finish};
 use pw_graph::Event;
 use pw_lists::Items;
 use pw_outside::{Files, Gate, Sink, Ticker};
@@ -90,13 +91,14 @@ fn prepare_words<R: Threads + Wait + Sync, F: Files, G: Gate + Sync, K: Ticker>(
         (end_of result) found.new.script }
     ensures what { OnOk result
         (IsWhatOf (command_of (map string_bytes words.now)) (F.held files.old) found.new.what) }
-    ensures cause { PrepareCause IsDeliverable (F.load_faults files.old)
+    ensures cause { PrepareCause statuses IsDeliverable (F.load_faults files.old)
         (F.load_faults files.new) result }
-    ensures usage { IsUsage (command_of (map string_bytes words.now)) (status_of result) }
+    ensures usage { IsPreparedUsage statuses (command_of (map string_bytes words.now)) result }
     ensures later { K.ticks ticker.old ≤ K.ticks ticker.new }
 {
     match read_words(alloc, words) {
-        Err(status) => Err(status),
+        Err(Misread::Word(word)) => Err(Status::Usage { word }),
+        Err(Misread::Memory) => Err(Status::Memory),
         Ok(command) => command.prepare(rt, alloc, files, gate, ticker, played, found),
     }
 }
@@ -171,9 +173,10 @@ pub fn run_words_with<R: Threads + Wait + Sync, F: Files, O: Sink, G: Gate + Syn
     ensures told { IsTold (map string_bytes words.now)
         (outside F.Files O.Sink files.old out.old) (outside F.Files O.Sink files.new out.new)
         (reported result.report (K.ticks ticker.old) (K.ticks ticker.new)) result.report.status }
-    ensures cause { Caused (outside F.Files O.Sink files.old out.old)
+    ensures cause { Caused statuses (outside F.Files O.Sink files.old out.old)
         (outside F.Files O.Sink files.new out.new) result.report.status }
-    ensures usage { IsUsage (command_of (map string_bytes words.now)) result.report.status }
+    ensures usage { IsUsage statuses (command_of (map string_bytes words.now))
+        result.report.status }
     ensures complete { IsComplete (map string_bytes words.now)
         (outside F.Files O.Sink files.old out.old) (outside F.Files O.Sink files.new out.new)
         (reported result.report (K.ticks ticker.old) (K.ticks ticker.new)) result.report.status }
@@ -204,8 +207,7 @@ pub fn run_words_with<R: Threads + Wait + Sync, F: Files, O: Sink, G: Gate + Syn
         &mut played,
         &mut found,
     );
-    let delivered = deliver(alloc, files, out, &made);
-    let status = end_line(alloc, out, delivered);
+    let status = finish(alloc, files, out, &made);
     let Played { history, closed } = played;
     Ran {
         report: Report {
@@ -248,9 +250,10 @@ pub fn run_words<R: Threads + Wait + Sync, F: Files, O: Sink, G: Gate + Sync, K:
 
     // Each fault has its cause outside, and Usage in the words, whether the files are reported or
     // not.
-    ensures cause { Caused (outside F.Files O.Sink files.old out.old)
+    ensures cause { Caused statuses (outside F.Files O.Sink files.old out.old)
         (outside F.Files O.Sink files.new out.new) result.status }
-    ensures usage { IsUsage (command_of (map string_bytes words.now)) result.status }
+    ensures usage { IsUsage statuses (command_of (map string_bytes words.now))
+        result.status }
 
     // Where no count of faults rose, the status is an expected answer's, or memory was short.
     ensures complete { IsComplete (map string_bytes words.now)

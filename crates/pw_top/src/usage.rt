@@ -1,8 +1,9 @@
 //! The words of a command line.
 ghost use Rattle.std.specs.Prelude.{◌≡◌, ℕ, ◌<◌, map, string_bytes, length, IfOk, Ok};
-ghost use Rattle.pw_top.specs.Words.{is_file_word, then_file, then_nothing, one_file, two_files, three_files};
-ghost use Rattle.pw_top.specs.Usage.{run_with, run_of, dump_of, filter_of, automate_of, check_of, soak_of, groups_of, command_of, ticks_in};
-ghost use Rattle.pw_top.specs.Usage.{IsRead, HasFewLoops};
+ghost use Rattle.command_frame.specs.Words.{IsAsked, is_file_word, then_file, then_nothing};
+ghost use Rattle.pw_top.specs.Words.{one_file, two_files, three_files};
+ghost use Rattle.pw_top.specs.Usage.{run_with, run_of, dump_of, filter_of, automate_of, check_of};
+ghost use Rattle.pw_top.specs.Usage.{soak_of, groups_of, command_of, ticks_in, HasFewLoops};
 ghost use Rattle.pw_top.specs.Options.{HasFew};
 
 use crate::commands::automate::AutomateFile;
@@ -14,9 +15,9 @@ use crate::commands::run::Running;
 use crate::commands::soak::Soaking;
 use crate::options::{Options, read_options};
 use crate::playing::Crew;
+use command_frame::Misread;
 use graph_script::number_within;
 use pw_lists::{Items, Text};
-use run_results::Status;
 use std::alloc::Global;
 
 /// What a command line asks for.
@@ -57,28 +58,28 @@ fn is_file_word(word: &String) -> bool
 }
 
 // A word as a name of a file.
-fn name_of(alloc: Global, word: &String) -> Result<Text, Status>
-    ensures { IsRead (Ok (string_bytes word.now)) result }
+fn name_of(alloc: Global, word: &String) -> Result<Text, Misread>
+    ensures { IsAsked (Ok (string_bytes word.now)) result }
 {
     match Items::from_slice(alloc, word.as_bytes()) {
         Ok(name) => Ok(name),
-        Err(_memory) => Err(Status::Memory),
+        Err(_memory) => Err(Misread::Memory),
     }
 }
 
 // The one file after a command.
 #[tactic(auto, unfolding(crate::specs::Words::one_file))]
-fn one_file(alloc: Global, rest: &[String]) -> Result<Text, Status>
-    ensures { IsRead (one_file (map string_bytes rest.now)) result }
+fn one_file(alloc: Global, rest: &[String]) -> Result<Text, Misread>
+    ensures { IsAsked (one_file (map string_bytes rest.now)) result }
 {
     match rest {
-        [] => Err(Status::Usage { word: 1 }),
+        [] => Err(Misread::Word(1)),
         [file, more @ ..] => {
             if !is_file_word(file) {
-                return Err(Status::Usage { word: 1 });
+                return Err(Misread::Word(1));
             }
             if !more.is_empty() {
-                return Err(Status::Usage { word: 2 });
+                return Err(Misread::Word(2));
             }
             name_of(alloc, file)
         }
@@ -86,8 +87,8 @@ fn one_file(alloc: Global, rest: &[String]) -> Result<Text, Status>
 }
 
 // Three words as the names of files.
-fn names_of(alloc: Global, a: &String, b: &String, c: &String) -> Result<FileWords, Status>
-    ensures { IsRead (Ok (record {
+fn names_of(alloc: Global, a: &String, b: &String, c: &String) -> Result<FileWords, Misread>
+    ensures { IsAsked (Ok (record {
       first = string_bytes a.now;
       second = string_bytes b.now;
       third = string_bytes c.now;
@@ -99,24 +100,24 @@ fn names_of(alloc: Global, a: &String, b: &String, c: &String) -> Result<FileWor
             second,
             third,
         }),
-        _ => Err(Status::Memory),
+        _ => Err(Misread::Memory),
     }
 }
 
 // The third file, and nothing after it.
-fn third_file(alloc: Global, a: &String, b: &String, rest: &[String]) -> Result<FileWords, Status>
-    ensures { IsRead (then_file 3 (map string_bytes rest.now)
+fn third_file(alloc: Global, a: &String, b: &String, rest: &[String]) -> Result<FileWords, Misread>
+    ensures { IsAsked (then_file 3 (map string_bytes rest.now)
         (λ c rest. then_nothing 4 rest (record
         { first = string_bytes a.now; second = string_bytes b.now; third = c }))) result }
 {
     match rest {
-        [] => Err(Status::Usage { word: 3 }),
+        [] => Err(Misread::Word(3)),
         [c, more @ ..] => {
             if !is_file_word(c) {
-                return Err(Status::Usage { word: 3 });
+                return Err(Misread::Word(3));
             }
             if !more.is_empty() {
-                return Err(Status::Usage { word: 4 });
+                return Err(Misread::Word(4));
             }
             names_of(alloc, a, b, c)
         }
@@ -124,18 +125,18 @@ fn third_file(alloc: Global, a: &String, b: &String, rest: &[String]) -> Result<
 }
 
 // The second file and what is after it.
-fn second_file(alloc: Global, a: &String, rest: &[String]) -> Result<FileWords, Status>
-    ensures { IsRead (then_file 2 (map string_bytes rest.now)
+fn second_file(alloc: Global, a: &String, rest: &[String]) -> Result<FileWords, Misread>
+    ensures { IsAsked (then_file 2 (map string_bytes rest.now)
         (λ b outs. then_file 3 outs (λ c rest. then_nothing 4 rest
         (record { first = string_bytes a.now; second = b; third = c })))) result }
 {
     match rest {
-        [] => Err(Status::Usage { word: 2 }),
+        [] => Err(Misread::Word(2)),
         [b, outs @ ..] => {
             if is_file_word(b) {
                 third_file(alloc, a, b, outs)
             } else {
-                Err(Status::Usage { word: 2 })
+                Err(Misread::Word(2))
             }
         }
     }
@@ -143,49 +144,49 @@ fn second_file(alloc: Global, a: &String, rest: &[String]) -> Result<FileWords, 
 
 // The three files after a command.
 #[tactic(auto, unfolding(crate::specs::Words::three_files))]
-fn three_files(alloc: Global, rest: &[String]) -> Result<FileWords, Status>
-    ensures { IsRead (three_files (map string_bytes rest.now)) result }
+fn three_files(alloc: Global, rest: &[String]) -> Result<FileWords, Misread>
+    ensures { IsAsked (three_files (map string_bytes rest.now)) result }
 {
     match rest {
-        [] => Err(Status::Usage { word: 1 }),
+        [] => Err(Misread::Word(1)),
         [a, bs @ ..] => {
             if is_file_word(a) {
                 second_file(alloc, a, bs)
             } else {
-                Err(Status::Usage { word: 1 })
+                Err(Misread::Word(1))
             }
         }
     }
 }
 
 // Two words as the names of files.
-fn pair_of(alloc: Global, a: &String, b: &String) -> Result<FilePair, Status>
-    ensures { IsRead (Ok (record {
+fn pair_of(alloc: Global, a: &String, b: &String) -> Result<FilePair, Misread>
+    ensures { IsAsked (Ok (record {
       first = string_bytes a.now;
       second = string_bytes b.now;
     })) result }
 {
     match (name_of(alloc, a), name_of(alloc, b)) {
         (Ok(first), Ok(second)) => Ok(FilePair { first, second }),
-        _ => Err(Status::Memory),
+        _ => Err(Misread::Memory),
     }
 }
 
 // The second of two files, and nothing after it.
-fn last_file(alloc: Global, a: &String, rest: &[String]) -> Result<FilePair, Status>
-    ensures { IsRead (then_file 2 (map string_bytes rest.now)
+fn last_file(alloc: Global, a: &String, rest: &[String]) -> Result<FilePair, Misread>
+    ensures { IsAsked (then_file 2 (map string_bytes rest.now)
         (λ b rest. then_nothing 3 rest (record
         { first = string_bytes a.now; second = b }))) result }
 {
     match rest {
-        [] => Err(Status::Usage { word: 2 }),
+        [] => Err(Misread::Word(2)),
         [b, more @ ..] => {
             if !is_file_word(b) {
-                Err(Status::Usage { word: 2 })
+                Err(Misread::Word(2))
             } else if more.is_empty() {
                 pair_of(alloc, a, b)
             } else {
-                Err(Status::Usage { word: 3 })
+                Err(Misread::Word(3))
             }
         }
     }
@@ -193,29 +194,29 @@ fn last_file(alloc: Global, a: &String, rest: &[String]) -> Result<FilePair, Sta
 
 // The two files after a command.
 #[tactic(auto, unfolding(crate::specs::Words::two_files))]
-fn two_files(alloc: Global, rest: &[String]) -> Result<FilePair, Status>
-    ensures { IsRead (two_files (map string_bytes rest.now)) result }
+fn two_files(alloc: Global, rest: &[String]) -> Result<FilePair, Misread>
+    ensures { IsAsked (two_files (map string_bytes rest.now)) result }
 {
     match rest {
-        [] => Err(Status::Usage { word: 1 }),
+        [] => Err(Misread::Word(1)),
         [a, bs @ ..] => {
             if is_file_word(a) {
                 last_file(alloc, a, bs)
             } else {
-                Err(Status::Usage { word: 1 })
+                Err(Misread::Word(1))
             }
         }
     }
 }
 
 // A script and its options: one loop and no ticks where nothing is said of them.
-fn run_with(alloc: Global, script: &String, options: Options) -> Result<CommandLine, Status>
+fn run_with(alloc: Global, script: &String, options: Options) -> Result<CommandLine, Misread>
     requires few { HasFew options }
-    ensures read { IsRead (run_with (string_bytes script.now) (Ok options)) result }
+    ensures read { IsAsked (run_with (string_bytes script.now) (Ok options)) result }
     ensures few { IfOk result HasFewLoops }
 {
     match Items::from_slice(alloc, script.as_bytes()) {
-        Err(_memory) => Err(Status::Memory),
+        Err(_memory) => Err(Misread::Memory),
         Ok(script) => Ok(CommandLine::Run(Running {
             script,
             crew: Crew {
@@ -230,18 +231,18 @@ fn run_with(alloc: Global, script: &String, options: Options) -> Result<CommandL
 
 // `run SCRIPT` with its options, after its first word.
 #[tactic(auto, unfolding(crate::specs::Usage::run_of))]
-fn read_run(alloc: Global, rest: &[String]) -> Result<CommandLine, Status>
-    ensures read { IsRead (run_of (map string_bytes rest.now)) result }
+fn read_run(alloc: Global, rest: &[String]) -> Result<CommandLine, Misread>
+    ensures read { IsAsked (run_of (map string_bytes rest.now)) result }
     ensures few { IfOk result HasFewLoops }
 {
     match rest {
-        [] => Err(Status::Usage { word: 1 }),
+        [] => Err(Misread::Word(1)),
         [script, more @ ..] => {
             if !is_file_word(script) {
-                return Err(Status::Usage { word: 1 });
+                return Err(Misread::Word(1));
             }
             match read_options(more) {
-                Err(word) => Err(Status::Usage { word }),
+                Err(word) => Err(Misread::Word(word)),
                 Ok(options) => run_with(alloc, script, options),
             }
         }
@@ -249,18 +250,18 @@ fn read_run(alloc: Global, rest: &[String]) -> Result<CommandLine, Status>
 }
 
 // `dump FILE`, after its first word.
-fn read_dump(alloc: Global, rest: &[String]) -> Result<CommandLine, Status>
-    ensures { IsRead (dump_of (one_file (map string_bytes rest.now))) result }
+fn read_dump(alloc: Global, rest: &[String]) -> Result<CommandLine, Misread>
+    ensures { IsAsked (dump_of (one_file (map string_bytes rest.now))) result }
 {
     match one_file(alloc, rest) {
         Ok(file) => Ok(CommandLine::Dump(DumpFile { file })),
-        Err(status) => Err(status),
+        Err(misread) => Err(misread),
     }
 }
 
 // `filter A B OUT`, after its first word.
-fn read_filter(alloc: Global, rest: &[String]) -> Result<CommandLine, Status>
-    ensures { IsRead (filter_of (three_files (map string_bytes rest.now))) result }
+fn read_filter(alloc: Global, rest: &[String]) -> Result<CommandLine, Misread>
+    ensures { IsAsked (filter_of (three_files (map string_bytes rest.now))) result }
 {
     match three_files(alloc, rest) {
         Ok(
@@ -274,13 +275,13 @@ fn read_filter(alloc: Global, rest: &[String]) -> Result<CommandLine, Status>
             b: second,
             out: third,
         })),
-        Err(status) => Err(status),
+        Err(misread) => Err(misread),
     }
 }
 
 // `automate IN SEQ OUT`, after its first word.
-fn read_automate(alloc: Global, rest: &[String]) -> Result<CommandLine, Status>
-    ensures { IsRead (automate_of (three_files (map string_bytes rest.now))) result }
+fn read_automate(alloc: Global, rest: &[String]) -> Result<CommandLine, Misread>
+    ensures { IsAsked (automate_of (three_files (map string_bytes rest.now))) result }
 {
     match three_files(alloc, rest) {
         Ok(
@@ -294,38 +295,38 @@ fn read_automate(alloc: Global, rest: &[String]) -> Result<CommandLine, Status>
             seq: second,
             out: third,
         })),
-        Err(status) => Err(status),
+        Err(misread) => Err(misread),
     }
 }
 
 // `check SCRIPT TRACE`, after its first word.
-fn read_check(alloc: Global, rest: &[String]) -> Result<CommandLine, Status>
-    ensures { IsRead (check_of (two_files (map string_bytes rest.now))) result }
+fn read_check(alloc: Global, rest: &[String]) -> Result<CommandLine, Misread>
+    ensures { IsAsked (check_of (two_files (map string_bytes rest.now))) result }
 {
     match two_files(alloc, rest) {
         Ok(FilePair { first, second }) => Ok(CommandLine::Check(CheckTrace {
             script: first,
             trace: second,
         })),
-        Err(status) => Err(status),
+        Err(misread) => Err(misread),
     }
 }
 
 // `soak NUMBER`, after its first word. Takes no memory.
 #[tactic(auto, unfolding(crate::specs::Usage::soak_of))]
-fn read_soak(rest: &[String]) -> Result<CommandLine, Status>
-    ensures read { IsRead (soak_of (map string_bytes rest.now)) result }
+fn read_soak(rest: &[String]) -> Result<CommandLine, Misread>
+    ensures read { IsAsked (soak_of (map string_bytes rest.now)) result }
     ensures few { IfOk result HasFewLoops }
 {
     match rest {
-        [] => Err(Status::Usage { word: 1 }),
+        [] => Err(Misread::Word(1)),
         [word, more @ ..] => match number_within(word.as_bytes(), 0, u32::MAX) {
-            None => Err(Status::Usage { word: 1 }),
+            None => Err(Misread::Word(1)),
             Some(number) => {
                 if more.is_empty() {
                     Ok(CommandLine::Soak(Soaking { number }))
                 } else {
-                    Err(Status::Usage { word: 2 })
+                    Err(Misread::Word(2))
                 }
             }
         },
@@ -333,24 +334,24 @@ fn read_soak(rest: &[String]) -> Result<CommandLine, Status>
 }
 
 // `groups SCRIPT`, after its first word.
-fn read_groups(alloc: Global, rest: &[String]) -> Result<CommandLine, Status>
-    ensures read { IsRead (groups_of (one_file (map string_bytes rest.now))) result }
+fn read_groups(alloc: Global, rest: &[String]) -> Result<CommandLine, Misread>
+    ensures read { IsAsked (groups_of (one_file (map string_bytes rest.now))) result }
     ensures few { IfOk result HasFewLoops }
 {
     match one_file(alloc, rest) {
         Ok(script) => Ok(CommandLine::Groups(Grouping { script })),
-        Err(status) => Err(status),
+        Err(misread) => Err(misread),
     }
 }
 
 /// What the words ask for, or the first word at fault.
 #[tactic(auto, unfolding(crate::specs::Usage::command_of))]
-pub fn read_words(alloc: Global, words: &[String]) -> Result<CommandLine, Status>
-    ensures read { IsRead (command_of (map string_bytes words.now)) result }
+pub fn read_words(alloc: Global, words: &[String]) -> Result<CommandLine, Misread>
+    ensures read { IsAsked (command_of (map string_bytes words.now)) result }
     ensures few { IfOk result HasFewLoops }
 {
     match words {
-        [] => Err(Status::Usage { word: 0 }),
+        [] => Err(Misread::Word(0)),
         [name, rest @ ..] => {
             if name.as_bytes() == b"run".as_slice() {
                 read_run(alloc, rest)
@@ -367,7 +368,7 @@ pub fn read_words(alloc: Global, words: &[String]) -> Result<CommandLine, Status
             } else if name.as_bytes() == b"groups".as_slice() {
                 read_groups(alloc, rest)
             } else {
-                Err(Status::Usage { word: 0 })
+                Err(Misread::Word(0))
             }
         }
     }

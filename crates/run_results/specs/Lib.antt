@@ -1,2 +1,4 @@
 pub mod Places
+pub mod StatusLine
 pub mod StatusNumbers
+pub mod Statuses

@@ -5,16 +5,16 @@ ghost use Rattle.std.specs.Prelude.{◌≡◌, ◌≤◌, ◌/◌, ◌++◌, [],
 ghost use Rattle.pw_lists.specs.Limits.{wav_bytes_limit};
 ghost use Rattle.control_sequence.specs.Automation.{ArePoints, automated};
 ghost use Rattle.wav_files.specs.WavWriting.{IsWave};
-ghost use Rattle.pw_top.specs.StatusLine.{numbers_line};
-ghost use Rattle.pw_top.specs.working.Ending.{Ends, CommandCause, IsDeliverable};
-ghost use Rattle.pw_top.specs.working.Preparing.{LoadsOnly, Tells};
+ghost use Rattle.run_results.specs.StatusLine.{numbers_line};
+ghost use Rattle.command_frame.specs.Preparing.{LoadsOnly};
+ghost use Rattle.pw_top.specs.working.Ending.{Ends, CommandCause, IsDeliverable, Tells};
 ghost use Rattle.pw_top.specs.Automate.{automated_wave, automate_work, AutomatesWave, ReadsPoints, LoadsPoints, ReadsWave};
 
-use crate::loading::load_step;
 use crate::pod_file::POD_BYTES;
 use crate::points_file::points_step;
 use crate::preparing::Prepare;
 use crate::wave_file::wave_step;
+use command_frame::load_step;
 use control_sequence::{Automation, Points};
 use pw_lists::{Items, Memory, Text, WAV_BYTES_LIMIT, Which, append_decimal};
 use pw_outside::Files;
@@ -37,7 +37,11 @@ impl Prepare for AutomateFile {
 
     fn prepare<F: Files>(self, alloc: Global, files: &mut F) -> Result<Work, Status> {
         let AutomateFile { input, seq, out } = self;
-        match load_step(alloc, files, 1, &input, WAV_BYTES_LIMIT, Which::WavBytes) {
+        let long = Status::Limit {
+            place: 1,
+            which: Which::WavBytes,
+        };
+        match load_step(alloc, files, 1, &input, WAV_BYTES_LIMIT, long) {
             Err(status) => Err(status),
             Ok(bytes) => wave_loaded(alloc, files, &bytes, &seq, out),
         }
@@ -81,7 +85,11 @@ fn load_points<F: Files>(
     ensures cause { CommandCause IsDeliverable (F.load_faults files.old)
         (F.load_faults files.new) result }
 {
-    match load_step(alloc, files, 2, seq, POD_BYTES, Which::PodBytes) {
+    let long = Status::Limit {
+        place: 2,
+        which: Which::PodBytes,
+    };
+    match load_step(alloc, files, 2, seq, POD_BYTES, long) {
         Err(status) => Err(status),
         Ok(bytes) => points_loaded(alloc, wav, &bytes, out),
     }

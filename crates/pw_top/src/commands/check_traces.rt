@@ -7,16 +7,16 @@ ghost use Rattle.std.specs.Prelude.{◌≡◌, ◌+◌, ◌<◌, ◌≤◌, ◌^
 ghost use Rattle.pw_graph.specs.SoundPlan.{IsSoundPlan};
 ghost use Rattle.pw_outside.specs.Files.{names_in};
 ghost use Rattle.cycle_trace.specs.TraceReading.{AreNames};
+ghost use Rattle.command_frame.specs.Preparing.{LoadsOnly};
 ghost use Rattle.pw_top.specs.Check.{trace_bytes_limit, finding_text, check_work, ChecksTrace, ChecksPlan, IsCheckAnswer};
 ghost use Rattle.pw_top.specs.CheckFound.{event_at, IsFoundIn, IsFoundUnder, IsFoundByCheck};
 ghost use Rattle.pw_top.specs.ScriptFound.{end_of, IsScriptUnder};
-ghost use Rattle.pw_top.specs.working.Ending.{Ends, CommandCause, IsDeliverable};
+ghost use Rattle.pw_top.specs.working.Ending.{Ends, CommandCause, IsDeliverable, Tells};
 ghost use Rattle.pw_top.specs.working.Playable.{IsPlayable};
-ghost use Rattle.pw_top.specs.working.Preparing.{LoadsOnly, Tells};
 ghost use Rattle.pw_top.specs.working.Seen.{IsSeenOn, verdict_by, finding_by, what_by};
 
-use crate::loading::load_step;
 use crate::planned::{Planned, plan_file};
+use command_frame::load_step;
 use cycle_trace::{TraceFault, read_events};
 use pw_graph::{Event, Plan};
 use pw_lists::{Items, Memory, Text, Which, append_decimal};
@@ -213,14 +213,11 @@ fn check_plan<F: Files>(
     ensures cause { CommandCause IsDeliverable (F.load_faults files.old)
         (F.load_faults files.new) result }
 {
-    match load_step(
-        alloc,
-        files,
-        TRACE_PLACE,
-        trace,
-        TRACE_BYTES,
-        Which::TraceBytes,
-    ) {
+    let long = Status::Limit {
+        place: TRACE_PLACE,
+        which: Which::TraceBytes,
+    };
+    match load_step(alloc, files, TRACE_PLACE, trace, TRACE_BYTES, long) {
         Err(status) => Err(status),
         Ok(bytes) => {
             let Planned { script, plan, .. } = planned;

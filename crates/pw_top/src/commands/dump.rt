@@ -4,9 +4,9 @@
 ghost use Rattle.pw_top.specs.working.Ending.{Ends, CommandCause, IsDeliverable};
 ghost use Rattle.pw_top.specs.Dump.{DumpsPod, DumpsBytes};
 
-use crate::loading::load_step;
 use crate::pod_file::{POD_BYTES, pod_step};
 use crate::preparing::Prepare;
+use command_frame::load_step;
 use pod_codec::{Pod, dump_text};
 use pw_lists::{Items, Text, Which};
 use pw_outside::Files;
@@ -25,7 +25,11 @@ impl Prepare for DumpFile {
     ghost answers = { λ c names. IsDumpAnswer names c.file };
 
     fn prepare<F: Files>(self, alloc: Global, files: &mut F) -> Result<Work, Status> {
-        match load_step(alloc, files, 1, &self.file, POD_BYTES, Which::PodBytes) {
+        let long = Status::Limit {
+            place: 1,
+            which: Which::PodBytes,
+        };
+        match load_step(alloc, files, 1, &self.file, POD_BYTES, long) {
             Err(status) => Err(status),
             Ok(bytes) => dump_bytes(alloc, &bytes),
         }

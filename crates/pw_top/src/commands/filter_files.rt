@@ -7,9 +7,9 @@ ghost use Rattle.format_filter.specs.declared.common.Filtered.TheVariants.{Commo
 ghost use Rattle.format_filter.specs.CommonFormat.{IsSoundFormat};
 ghost use Rattle.pw_outside.specs.Files.{names_in};
 ghost use Rattle.command_frame.specs.declared.work.Content.TheVariants as C;
-ghost use Rattle.pw_top.specs.StatusLine.{numbers_line};
-ghost use Rattle.pw_top.specs.working.Ending.{Ends, CommandCause, IsDeliverable};
-ghost use Rattle.pw_top.specs.working.Preparing.{LoadsOnly, Tells};
+ghost use Rattle.run_results.specs.StatusLine.{numbers_line};
+ghost use Rattle.command_frame.specs.Preparing.{LoadsOnly};
+ghost use Rattle.pw_top.specs.working.Ending.{Ends, CommandCause, IsDeliverable, Tells};
 ghost use Rattle.pw_top.specs.Allowed.{Reads};
 ghost use Rattle.pw_top.specs.Filter.{clash_work, types_work, StoresObject, GivesFiltered, FiltersTo};
 ghost use Rattle.pw_top.specs.Filter.{ReadsSecond, LoadsSecond, ReadsFirst, IsFilterAnswer};
@@ -17,8 +17,8 @@ ghost use Rattle.pw_top.specs.FilterFound.{IsFoundOf, IsFoundByFilter};
 ghost use Rattle.pw_top.specs.working.Filtering.{IsFoundWith, IsFoundAfter, IsFoundFrom};
 
 use crate::format_file::format_step;
-use crate::loading::load_step;
 use crate::pod_file::POD_BYTES;
+use command_frame::load_step;
 use format_filter::{Filtered, Format, filter, pod_of};
 use pod_codec::{Pod, WriteFault, write_pod};
 use pw_lists::{Items, Memory, Text, Which, append_decimal};
@@ -54,7 +54,11 @@ impl FilterFiles {
             (F.load_faults files.new) result }
     {
         let FilterFiles { a, b, out } = self;
-        match load_step(alloc, files, 1, &a, POD_BYTES, Which::PodBytes) {
+        let long = Status::Limit {
+            place: 1,
+            which: Which::PodBytes,
+        };
+        match load_step(alloc, files, 1, &a, POD_BYTES, long) {
             Err(status) => Err(status),
             Ok(bytes) => first_loaded(alloc, files, &bytes, &b, out, what),
         }
@@ -104,7 +108,11 @@ fn load_second<F: Files>(
     ensures cause { CommandCause IsDeliverable (F.load_faults files.old)
         (F.load_faults files.new) result }
 {
-    match load_step(alloc, files, 2, b, POD_BYTES, Which::PodBytes) {
+    let long = Status::Limit {
+        place: 2,
+        which: Which::PodBytes,
+    };
+    match load_step(alloc, files, 2, b, POD_BYTES, long) {
         Err(status) => Err(status),
         Ok(bytes) => second_loaded(alloc, first, &bytes, out, what),
     }

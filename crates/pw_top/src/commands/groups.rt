@@ -4,11 +4,11 @@
 
 ghost use Rattle.std.specs.Prelude.{◌≡◌, ◌≤◌, ℕ, length, None, IsSome, IfOk, OnErr, OnOk};
 ghost use Rattle.pw_outside.specs.Files.{names_in};
+ghost use Rattle.command_frame.specs.Preparing.{LoadsOnly};
 ghost use Rattle.pw_top.specs.working.Ending.{CommandCause, IsDeliverable};
 ghost use Rattle.pw_top.specs.Groups.{CanBeGrouped, parts_outcome};
 ghost use Rattle.pw_top.specs.GroupsWork.{groups_work, HasGroupsRun, GroupsPlan, IsGroupsAnswer};
 ghost use Rattle.pw_top.specs.Playing.{happened, HasNothing, Plays, TellsPlay};
-ghost use Rattle.pw_top.specs.working.Preparing.{LoadsOnly};
 ghost use Rattle.pw_top.specs.RunFound.{parts_found, IsFoundByGroups};
 ghost use Rattle.pw_top.specs.ScriptFound.{end_of, IsScriptUnder};
 

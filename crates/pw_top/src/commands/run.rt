@@ -5,11 +5,11 @@
 ghost use Rattle.std.specs.Prelude.{◌≡◌, ◌≤◌, None, IsSome, OnOk};
 ghost use Rattle.ready_queues.specs.Lanes.{loops_limit};
 ghost use Rattle.pw_outside.specs.Files.{names_in};
+ghost use Rattle.command_frame.specs.Preparing.{LoadsOnly};
 ghost use Rattle.pw_top.specs.working.Ending.{CommandCause, IsDeliverable};
 ghost use Rattle.pw_top.specs.working.Playable.{IsPlayable};
 ghost use Rattle.pw_top.specs.PlannedWork.{PlaysPlan};
 ghost use Rattle.pw_top.specs.Playing.{happened, HasNothing, Plays, TellsPlay};
-ghost use Rattle.pw_top.specs.working.Preparing.{LoadsOnly};
 ghost use Rattle.pw_top.specs.Run.{IsRunAnswer};
 ghost use Rattle.pw_top.specs.RunFound.{IsFoundOfPlan, IsFoundByRun};
 ghost use Rattle.pw_top.specs.ScriptFound.{end_of, IsScriptUnder};

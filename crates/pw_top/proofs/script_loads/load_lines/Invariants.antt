@@ -3,9 +3,9 @@ use Rattle.std.specs.Prelude.{Result}
 use Rattle.pw_outside.specs.Files.{names_in}
 use Rattle.graph_lines.specs.Start.{kinds_of}
 use Rattle.run_results.specs.declared.status.Status.{Status}
+use Rattle.command_frame.specs.Preparing.{LoadsOnly}
 use Rattle.pw_top.specs.declared.inputs.PlanInputs.{PlanInputs}
 use Rattle.pw_top.specs.working.Ending.{Ends}
-use Rattle.pw_top.specs.working.Preparing.{LoadsOnly}
 use Rattle.pw_top.specs.Loads.{LoadsAll}
 use Rattle.pw_top.specs.PlanInputs.{nothing_loaded, AreSoundInputs}
 use Rattle.script_inputs.proofs.LineLemmas.{IsUnderWay}

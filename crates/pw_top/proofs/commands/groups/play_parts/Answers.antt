@@ -5,9 +5,9 @@ use Rattle.wav_files.specs.declared.outcome.Kept.{Kept}
 use Rattle.wav_files.specs.WavWriting.{IsWave}
 use Rattle.run_results.specs.declared.status.Status.TheVariants as S
 use Rattle.command_frame.specs.declared.work.Work.{Work}
-use Rattle.pw_top.specs.Answer.{ended}
+use Rattle.command_frame.specs.Answer.{ended}
+use Rattle.command_frame.specs.Ending.IsEndOf.{is_end}
 use Rattle.pw_top.specs.working.Ending.{IsDeliverable}
-use Rattle.pw_top.specs.working.Ending.IsEndOf.{is_end}
 use Rattle.pw_top.specs.Groups.{parts_outcome}
 use Rattle.pw_top.specs.GroupsWork.{groups_work}
 use Rattle.pw_top.specs.Playing.{HasNothing}

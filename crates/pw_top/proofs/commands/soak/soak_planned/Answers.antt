@@ -4,9 +4,9 @@ use Rattle.std.specs.Prelude.{Ok}
 use Rattle.std.proofs.lemmas.List.Elements.{All-nil}
 use Rattle.run_results.specs.declared.status.Status.TheVariants as S
 use Rattle.command_frame.specs.declared.work.Work.{Work}
-use Rattle.pw_top.specs.Answer.{ended}
+use Rattle.command_frame.specs.Answer.{ended}
+use Rattle.command_frame.specs.Ending.IsEndOf.{is_end}
 use Rattle.pw_top.specs.working.Ending.{IsStorable, IsDeliverable}
-use Rattle.pw_top.specs.working.Ending.IsEndOf.{is_end}
 use Rattle.pw_top.specs.Playing.{HasNothing}
 use Rattle.pw_top.specs.Soak.{soak_work}
 use Rattle.pw_top.proofs.commands.soak.soak_planned.Goals as goal

@@ -3,9 +3,9 @@ use Rattle.std.proofs.Common.{refl, sym, ap, subst, inl, inr, []}
 use Rattle.std.specs.Prelude.{Ok}
 use Rattle.run_results.specs.declared.status.Status.TheVariants as S
 use Rattle.command_frame.specs.declared.work.Work.{Work}
-use Rattle.pw_top.specs.Answer.{ended}
+use Rattle.command_frame.specs.Answer.{ended}
+use Rattle.command_frame.specs.Ending.IsEndOf.{is_end}
 use Rattle.pw_top.specs.working.Ending.{IsDeliverable}
-use Rattle.pw_top.specs.working.Ending.IsEndOf.{is_end}
 use Rattle.pw_top.specs.Playing.{HasNothing}
 use Rattle.pw_top.specs.PlannedWork.{plan_work}
 use Rattle.pw_top.proofs.PlanWorkLemmas.{stores_made}

@@ -1,10 +1,10 @@
 //! The line of a status, built in a fixed array.
 ghost use Rattle.std.specs.Prelude.{◌≡◌, ℕ, ◌+◌, ◌*◌, ◌-◌, ◌/◌, ◌%◌, ◌^◌, ◌<◌, ◌≤◌, [], ◌∷◌, ◌++◌, length};
 ghost use Rattle.std.specs.Prelude.{decimal};
-ghost use Rattle.pw_top.specs.StatusLine.{numbers_line, line_of, has_line};
+ghost use Rattle.run_results.specs.StatusLine.{numbers_line, line_of, has_line};
 
+use crate::status::{PodWhy, Status};
 use graph_script::ScriptWhy;
-use run_results::{PodWhy, Status};
 use std::marker::Model;
 
 /// A short text in an array of its own. Takes no memory.

@@ -1,5 +1,5 @@
 use Rattle.std.proofs.Common.{length}
-use Rattle.pw_top.proofs.status_line.+put_numbers.Given as goal
+use Rattle.run_results.proofs.status_line.+put_numbers.Given as goal
 
 abbrev pub decreases-put_numbers : goal.decreases-put_numbers
 decreases-put_numbers l = length l.numbers.now

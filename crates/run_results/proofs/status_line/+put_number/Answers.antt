@@ -1,7 +1,7 @@
 use Rattle.std.proofs.Common.{arith, ◌≡◌, ◌+◌, ◌/◌, ◌^◌, ◌<◌, length, ◌∙◌, ap, ◌++◌, ◌%◌, ◌∷◌, [], length-append}
 use Rattle.std.specs.Fmt.{decimal}
-use Rattle.pw_top.proofs.StatusLineLemmas.{decimal_one, decimal_more, length-decimal_more, length-decimal_one}
-use Rattle.pw_top.proofs.status_line.+put_number.Goals as goal
+use Rattle.run_results.proofs.StatusLineLemmas.{decimal_one, decimal_more, length-decimal_more, length-decimal_one}
+use Rattle.run_results.proofs.status_line.+put_number.Goals as goal
 
 pub push-requires : goal.push-requires
 push-requires t c = omega (arith, length-decimal_one c.args.n c.if-n-lt10.true)

@@ -1,7 +1,7 @@
 use Rattle.std.proofs.Common.{arith, ◌≡◌, ◌+◌, ◌≤◌, length, ◌∙◌, ap, ◌++◌, ◌∷◌, [], length-append, append_assoc}
 use Rattle.std.specs.Fmt.{decimal}
-use Rattle.pw_top.proofs.StatusLineLemmas.{length-decimal_u32}
-use Rattle.pw_top.proofs.status_line.put_part.Goals as goal
+use Rattle.run_results.proofs.StatusLineLemmas.{length-decimal_u32}
+use Rattle.run_results.proofs.status_line.put_part.Goals as goal
 
 pub put_number-requires : goal.put_number-requires
 put_number-requires c =
