@@ -66,7 +66,7 @@ pub board_sync : IsSync board_row.the_row
 board_sync = search crossing depth 30 fits 50000
 
 pub shared_sync : IsSync shared_row.the_row
-shared_sync = search (crossing, board_sync) depth 30
+shared_sync = search (crossing, board_sync) depth 30 fits 50000
 
 -- a run of one thread, before it and after it
 driver_send : IsSend driver_row.the_row

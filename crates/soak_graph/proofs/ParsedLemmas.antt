@@ -12,7 +12,7 @@ use Rattle.pw_graph.specs.declared.kind.Kind.{Kind}
 use Rattle.pw_graph.specs.declared.kind.Kind.TheVariants as K
 use Rattle.graph_script.specs.declared.command.Command.{Command}
 use Rattle.graph_script.specs.declared.command.Command.TheVariants as C
-use Rattle.graph_script.specs.CommandNames.{node_command_called, graph_command_called}
+use Rattle.graph_script.specs.CommandWords.{names}
 use Rattle.graph_script.specs.Commands.{meaning_of_words, meaning_of_command}
 use Rattle.graph_script.specs.Checked.{◌>>=◌, number_arg, integer_arg}
 use Rattle.graph_script.specs.Earlier.{making, saying}
@@ -66,7 +66,7 @@ is_read reading line parsed e means =
 pub gain_read : (reading : Reading) (i node : ℕ) (g : ℤ) (parsed : ParsedLine) → is_word (codes "g" ++ digit i) ≡ true
     → (neg_ℤ (pos 256) ≤ℤ g) × (g ≤ℤ pos 256) → new_arg reading (codes "g" ++ digit i) ≡ Ok node
     → making reading (C.Gain node g) (codes "g" ++ digit i) (K.Gain g) ≡ Ok parsed → IsParsedLine reading (gain_line i g) parsed
-unfolding meaning_of_command node_command_called
+unfolding meaning_of_command names
 gain_read reading i node g parsed word range new made =
     let name = codes "g" ++ digit i in
     let z = signed_decimal g in
@@ -86,7 +86,7 @@ gain_read reading i node g parsed word range new made =
 pub delay_read : (reading : Reading) (i node d : ℕ) (parsed : ParsedLine) → is_word (codes "d" ++ digit i) ≡ true → d ≤ 1024
     → new_arg reading (codes "d" ++ digit i) ≡ Ok node
     → making reading (C.Delay node d) (codes "d" ++ digit i) (K.Delay d) ≡ Ok parsed → IsParsedLine reading (delay_line i d) parsed
-unfolding meaning_of_command node_command_called
+unfolding meaning_of_command names
 delay_read reading i node d parsed word range new made =
     let name = codes "d" ++ digit i in
     let z = decimal d in
@@ -115,7 +115,7 @@ node_parsed reading k named =
 
 pub off_read : (reading : Reading) (k : ℕ) → IsNamed reading.script.names k
     → IsParsedLine reading (codes "off s" ++ digit k) (plain_parsed [] (C.Off (source_node k))).1
-unfolding meaning_of_command node_command_called graph_command_called
+unfolding meaning_of_command names
 off_read reading k named =
     let name = codes "s" ++ digit k in
     parsed_of_words reading (codes "off") (name ∷ []) (plain_parsed [] (C.Off (source_node k))).1 (omega arith) (word_is (codes "off") refl)
@@ -124,7 +124,7 @@ off_read reading k named =
 
 pub on_read : (reading : Reading) (k : ℕ) → IsNamed reading.script.names k
     → IsParsedLine reading (codes "on s" ++ digit k) (plain_parsed [] (C.On (source_node k))).1
-unfolding meaning_of_command node_command_called graph_command_called
+unfolding meaning_of_command names
 on_read reading k named =
     let name = codes "s" ++ digit k in
     parsed_of_words reading (codes "on") (name ∷ []) (plain_parsed [] (C.On (source_node k))).1 (omega arith) (word_is (codes "on") refl)

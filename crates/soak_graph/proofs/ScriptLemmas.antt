@@ -11,7 +11,7 @@ use Rattle.graph_script.specs.declared.fault.ScriptWhy.{ScriptWhy}
 use Rattle.graph_script.specs.declared.fault.ScriptFault.{ScriptFault}
 use Rattle.graph_script.specs.declared.fault.ScriptFault.TheVariants as F
 use Rattle.graph_script.specs.declared.script.Script.{Script}
-use Rattle.graph_script.specs.CommandNames.{node_command_called, graph_command_called, time_command_called}
+use Rattle.graph_script.specs.CommandWords.{names}
 use Rattle.graph_script.specs.Commands.{meaning_of_command}
 use Rattle.graph_script.specs.Grammar.{meaning_of_line, script_from, script_of, start, IsRead}
 use Rattle.graph_script.specs.Lexical.{lines_of}
@@ -72,7 +72,7 @@ a ▸ b = (a, b)
 
 all_read : (gains : ℕ → ℤ) (delays : ℕ → ℕ) (k : ℕ) → ((i : ℕ) → (neg_ℤ (pos 256) ≤ℤ gains i) × (gains i ≤ℤ pos 256))
     → ((i : ℕ) → delays i ≤ 1024) → k < 8 → AreParsedLines 1 start (all_parsed gains delays k)
-unfolding meaning_of_line meaning_of_command node_command_called graph_command_called time_command_called
+unfolding meaning_of_line meaning_of_command names
 all_read gains delays k g d below =
     is_read _ _ _ refl refl
     ▸ is_read _ _ _ refl refl ▸ gain_read _ 0 1 (gains 0) _ refl (g 0) refl refl ▸ delay_read _ 0 2 (delays 0) _ refl (d 0) refl refl

@@ -5,8 +5,8 @@ ghost use Rattle.cycle_model.specs.WavesFit.{WavesFit};
 ghost use Rattle.steal_loops.specs.working.Crews.{IsOpened};
 
 use board_rule::{Board, DriverSeat};
-use data_loop::LoopState;
-use graph_run::{Seating, boards_of, cell_seating, loops_of};
+use data_loop::{LoopState, pools_in};
+use graph_run::{Seating, boards_with_pools, cell_seating, loops_with_pools};
 use pw_graph::Plan;
 use pw_lists::{Items, Memory};
 use std::alloc::Global;
@@ -33,8 +33,10 @@ pub(crate) fn open_plan(alloc: Global, plan: &Plan, waves: &Items<WavIn>) -> Res
     ensures { IfOk result (IsOpened plan.now waves.now) }
 {
     let seating = cell_seating(alloc, plan)?;
-    let all = boards_of(alloc, plan, waves, &seating)?;
-    let mut cells = loops_of(alloc, plan, waves, &seating, all.seats)?;
+    let pools = pools_in(alloc, plan)?;
+    let pools = pools.as_slice();
+    let all = boards_with_pools(alloc, plan, waves, &seating, pools)?;
+    let mut cells = loops_with_pools(alloc, plan, waves, &seating, pools, all.seats)?;
     let own = cells.pop().unwrap();
     Ok(Opened {
         seating,

@@ -1,13 +1,18 @@
-use Rattle.std.proofs.Common.{◌≡◌, ◌∙◌, ℕ, List, length, sym, subst}
+use Rattle.std.proofs.Common.{◌≡◌, ◌∙◌, ℕ, All, List, length, sym, subst}
 use Rattle.std.proofs.lemmas.List.{with_items_is}
 use Rattle.board_rule.specs.Known.{Known}
 use Rattle.data_loop.specs.declared.loop_state.LoopState.{LoopState}
 use Rattle.driver_cycle.specs.Settling.{AreEach}
 use Rattle.graph_run.specs.Leads.{HaveLed, HaveLooked}
-use Rattle.graph_run.specs.LoopsOnPlan.{HasCome}
+use Rattle.graph_run.specs.LoopsOnPlan.{HasCome, HasNoDriver}
 use Rattle.graph_run.specs.Threads.{HasRun}
 use Rattle.graph_run.proofs.DoneLemmas.{came, each_came}
 use Rattle.graph_run.proofs.leading.drive.Goals as goal
+
+pub run_epochs-requires-clause-none : goal.run_epochs-requires-clause-none
+run_epochs-requires-clause-none g c =
+    let was : c.as_mut_slice-2.result.now ≡ c.args.adopted = c.as_mut_slice-2.ensures.value ∙ c.into_vec-adopted.ensures in
+    subst (All HasNoDriver) (sym was) (λ k d inside. (c.requires.adopted k d inside).none)
 
 pub returns-clause-own : goal.returns-clause-own
 returns-clause-own g c = came c.args.shared.now.boards c.args.driving.own c.run_epochs.new.own c.requires.drives.ready c.run_epochs.ensures.own
