@@ -1,3 +1,4 @@
 pub mod NoteLemmas
 pub mod RoomLemmas
 pub mod WaveLemmas
+pub mod WordLemmas

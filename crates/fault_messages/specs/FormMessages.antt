@@ -1,23 +1,29 @@
 -- A line with another number of words than its command takes, in words. Source: the grammar and the
 -- sentences are this project's own.
-use Rattle.std.specs.Prelude.{ℕ, ◌==◌, ◌||◌, ◌&&◌, Bool, List, [], ◌++◌, codes, length, nat_lt, bytes_eq, Option, Some, None, if◌then◌else◌}
+use Rattle.std.specs.Prelude.{ℕ, ◌==◌, ◌||◌, ◌&&◌, Bool, false, List, [], ◌++◌, map, codes, length, nat_lt, bytes_eq, Option, Some, None, if◌then◌else◌}
 use Rattle.std.specs.List.{list_any}
 use Rattle.graph_script.specs.Lexical.{words_of}
-use Rattle.fault_messages.specs.CommandForms.{form_of}
+use Rattle.graph_script.specs.declared.name.Name.{Name}
+use Rattle.graph_script.specs.CommandWords.{word_of, name_called}
+use Rattle.graph_script.specs.Printing.{spaced}
+use Rattle.graph_script.specs.Table.{params_of, label_word}
 use Rattle.fault_messages.specs.Places.{word, quoted}
 
--- the form of a command
-abbrev pub form_part : Option (List ℕ) → List ℕ
-form_part None = []
-form_part (Some form) = form
+-- the form of a command, as `gain NAME G`; nothing where there is no command
+abbrev pub form_text : Option Name → List ℕ
+form_text None = []
+form_text (Some name) = word_of name ++ spaced (map (λ p. label_word p.label) (params_of name))
 
-unfoldable pub takes_form : List ℕ → List ℕ
-takes_form form = codes " takes these words: " ++ form
+-- whether it is a command without parameters
+abbrev pub takes_none : Option Name → Bool
+takes_none None = false
+takes_none (Some name) = length (params_of name) == 0
 
-unfoldable pub takes_part : List ℕ → List ℕ
-takes_part name =
-    if bytes_eq name (codes "drain") then codes " takes no words"
-    else takes_form (form_part (form_of name))
+unfoldable pub takes_form : Option Name → List ℕ
+takes_form name = codes " takes these words: " ++ form_text name
+
+unfoldable pub takes_part : Option Name → List ℕ
+takes_part name = if takes_none name then codes " takes no words" else takes_form name
 
 -- a command whose second argument is a file
 abbrev pub has_file : List ℕ → Bool
@@ -44,4 +50,4 @@ comment_part line =
 
 -- WHAT A COMMAND TAKES
 unfoldable pub form_said : List ℕ → List ℕ → List ℕ
-form_said name line = quoted name ++ (takes_part name ++ comment_part line)
+form_said name line = quoted name ++ (takes_part (name_called name) ++ comment_part line)

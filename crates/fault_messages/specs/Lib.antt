@@ -1,7 +1,6 @@
 pub mod ByteFaults
 pub mod CauseWords
 pub mod ClippedSinks
-pub mod CommandForms
 pub mod CycleRoom
 pub mod EmptySinks
 pub mod EventWords
@@ -22,7 +21,6 @@ pub mod Nearness
 pub mod NodeNames
 pub mod NoteHeads
 pub mod Notes
-pub mod NumberRules
 pub mod Places
 pub mod PodMessages
 pub mod PortEnds
@@ -36,4 +34,5 @@ pub mod SinkNotes
 pub mod SinkWaves
 pub mod UnknownNames
 pub mod Usages
+pub mod WordRules
 pub mod working

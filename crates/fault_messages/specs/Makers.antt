@@ -1,13 +1,31 @@
 -- The lines that make nodes, the one that makes a node of a name, and the kind of node, which is
 -- the line's command. Source: the grammar is this project's own.
-use Rattle.std.specs.Prelude.{ℕ, ◌&&◌, Bool, is_some, List, [], bytes_eq, find, Option, Some, None}
+use Rattle.std.specs.Prelude.{ℕ, ◌&&◌, Bool, true, false, is_some, List, [], ◌∷◌, bytes_eq, find, Option, Some, None}
 use Rattle.graph_script.specs.Lexical.{words_of}
-use Rattle.fault_messages.specs.CommandForms.{node_form}
+use Rattle.graph_script.specs.declared.name.Name.{Name}
+use Rattle.graph_script.specs.declared.param.Form.{Form}
+use Rattle.graph_script.specs.declared.param.Form.TheVariants as F
+use Rattle.graph_script.specs.declared.param.Param.{Param}
+use Rattle.graph_script.specs.CommandWords.{name_called}
+use Rattle.graph_script.specs.Table.{params_of}
 use Rattle.fault_messages.specs.Places.{word}
+
+-- a command whose first word names a new node
+abbrev pub is_new : Form → Bool
+is_new F.New = true
+is_new _ = false
+
+abbrev pub begins_new : List Param → Bool
+begins_new [] = false
+begins_new (first ∷ more) = is_new first.form
+
+abbrev pub names_new : Option Name → Bool
+names_new None = false
+names_new (Some name) = begins_new (params_of name)
 
 -- a line that makes a node
 abbrev pub is_maker : List ℕ → Bool
-is_maker line = is_some (node_form (word (words_of line) 0))
+is_maker line = names_new (name_called (word (words_of line) 0))
 
 -- one that makes a node of this name, the first of some, and whether there is one
 abbrev pub makes : List ℕ → List ℕ → Bool

@@ -1,5 +1,4 @@
--- Which word of a line has the form of no name, end or file, and what it has to be. Source: the
--- forms are this project's own.
+-- The forms of names and ends, and what they have to be. Source: the forms are this project's own.
 use Rattle.std.specs.Prelude.{ℕ, ◌==◌, ◌||◌, ◌&&◌, not, Bool, List, [], ◌∷◌, take, drop, length, nat_lt, codes, bytes_eq, if◌then◌else◌}
 use Rattle.std.specs.List.{position_or_len}
 use Rattle.graph_script.specs.Arguments.{is_node_name, is_dot}
@@ -29,19 +28,7 @@ has_dot w = nat_lt (dot_place w) (length w)
 abbrev pub is_end : List ℕ → Bool
 is_end w = has_dot w && (not (has_dot (end_port w)) && is_node_name (end_name w))
 
--- the place of a file word, or that of the name where there is none
-abbrev pub file_place : List ℕ → ℕ
-file_place name =
-    if bytes_eq name (codes "offer") then 3
-    else (if bytes_eq name (codes "source") || bytes_eq name (codes "sink") then 2 else 1)
-
--- the first word that has another form
-abbrev pub name_place : List (List ℕ) → ℕ
-name_place ws =
-    if is_pair ws then (if is_end (word ws 1) then 2 else 1)
-    else (if is_node_name (word ws 1) then file_place (word ws 0) else 1)
-
--- what it has to be: of an end with one dot the name is at fault
+-- what an end has to be: of one with one dot the name is at fault
 abbrev pub has_one_dot : List ℕ → Bool
 has_one_dot w = has_dot w && not (has_dot (end_port w))
 
@@ -50,10 +37,3 @@ end_rule w =
     if has_one_dot w
     then codes "the name is a lower-case letter and up to 30 of a to z, 0 to 9 and _"
     else codes "an end is NODE.PORT"
-
-abbrev pub name_rule : List (List ℕ) → ℕ → List ℕ
-name_rule ws place =
-    if is_pair ws then end_rule (word ws place)
-    else (if place == 1
-    then codes "a name is a lower-case letter and up to 30 of a to z, 0 to 9 and _"
-    else codes "a file word has at most 255 bytes")

@@ -4,23 +4,26 @@ use Rattle.std.specs.Prelude.{ℕ, if◌then◌else◌, List, ◌++◌, codes, b
 use Rattle.graph_script.specs.Lexical.{words_of}
 use Rattle.graph_script.specs.declared.fault.ScriptWhy.{ScriptWhy}
 use Rattle.graph_script.specs.declared.fault.ScriptWhy.TheVariants as F
+use Rattle.graph_script.specs.declared.name.Name.{Name}
+use Rattle.graph_script.specs.declared.param.Param.{Param}
+use Rattle.graph_script.specs.CommandWords.{word_of}
 use Rattle.fault_messages.specs.ByteFaults.{byte_said}
 use Rattle.fault_messages.specs.FormMessages.{form_said}
 use Rattle.fault_messages.specs.FileMessages.{limit_said}
 use Rattle.fault_messages.specs.Makers.{kind_of}
-use Rattle.fault_messages.specs.NameRules.{is_pair, end_name, name_place, name_rule}
+use Rattle.fault_messages.specs.NameRules.{is_pair, end_name}
 use Rattle.fault_messages.specs.Nearest.{meant}
-use Rattle.fault_messages.specs.NumberRules.{number_place, number_rule}
 use Rattle.fault_messages.specs.Places.{begins, word, quoted}
 use Rattle.fault_messages.specs.PortEnds.{ends_said, port_said}
 use Rattle.fault_messages.specs.ScriptWords.{script_text, of_word}
 use Rattle.fault_messages.specs.UnknownNames.{unknown_name}
+use Rattle.fault_messages.specs.WordRules.{unfit_in, rule_of}
 
 -- a word that is no command, with the one that is meant
-abbrev pub command_text : List ℕ → Option (List ℕ) → List ℕ
+abbrev pub command_text : List ℕ → Option Name → List ℕ
 command_text name None = quoted name ++ codes " is no command"
 command_text name (Some other) =
-    quoted name ++ (codes " is no command; did you mean " ++ (quoted other ++ codes "?"))
+    quoted name ++ (codes " is no command; did you mean " ++ (quoted (word_of other) ++ codes "?"))
 
 unfoldable pub command_said : List ℕ → List ℕ
 command_said name =
@@ -28,16 +31,11 @@ command_said name =
     then quoted name ++ codes " is no command; a WAV file begins with RIFF"
     else command_text name (meant name)
 
--- a word and what it has to be
-abbrev pub rule_said : List ℕ → List ℕ → List ℕ
-rule_said w rule = quoted w ++ (codes ": " ++ rule)
-
-abbrev pub number_said : List (List ℕ) → List ℕ
-number_said ws =
-    rule_said (word ws (number_place ws)) (number_rule (word ws 0) (number_place ws))
-
-abbrev pub name_said : List (List ℕ) → List ℕ
-name_said ws = rule_said (word ws (name_place ws)) (name_rule ws (name_place ws))
+-- a word at fault by its form or its range, with what it has to be
+abbrev pub unfit_said : ScriptWhy → Option (Param × List ℕ) → List ℕ
+unfit_said why None = script_text why
+unfit_said why (Some unfit) =
+    quoted unfit.1 ++ (codes ": " ++ rule_of unfit.0.label unfit.0.form unfit.1)
 
 -- a port that is not there, by the lines before, which make the nodes
 unfoldable pub unknown_port : List (List ℕ) → List (List ℕ) → List ℕ
@@ -57,8 +55,8 @@ abbrev pub named_text : ScriptWhy → List ℕ → List (List ℕ) → List ℕ
 named_text F.Byte line before = byte_said line
 named_text F.Command line before = command_said (word (words_of line) 0)
 named_text F.Arguments line before = form_said (word (words_of line) 0) line
-named_text F.Number line before = number_said (words_of line)
-named_text F.NameForm line before = name_said (words_of line)
+named_text F.Number line before = unfit_said F.Number (unfit_in (words_of line))
+named_text F.NameForm line before = unfit_said F.NameForm (unfit_in (words_of line))
 named_text F.QuantumLate line before = script_text F.QuantumLate
 named_text (F.TooMany which) line before = limit_said which
 named_text F.NameUnknown line before = unknown_name (words_of line) before

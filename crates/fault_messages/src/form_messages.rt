@@ -1,42 +1,74 @@
 //! A line with another number of words than its command takes, in words.
-ghost use Rattle.std.specs.Prelude.{◌≡◌, ◌==◌, ◌++◌, OnOk};
+ghost use Rattle.std.specs.Prelude.{◌≡◌, ◌==◌, ◌++◌, map, OnOk};
 ghost use Rattle.std.specs.List.{list_any};
 ghost use Rattle.graph_script.specs.Lexical.{words_of};
-ghost use Rattle.fault_messages.specs.CommandForms.{form_of};
-ghost use Rattle.fault_messages.specs.FormMessages.{form_part, takes_form, takes_part, has_file, has_word, blank_part, comment_part, form_said};
+ghost use Rattle.graph_script.specs.Printing.{spaced};
+ghost use Rattle.graph_script.specs.Table.{label_word};
+ghost use Rattle.fault_messages.specs.FormMessages.{form_text, takes_form, takes_none, takes_part, has_file, has_word, blank_part, comment_part, form_said};
 
-use crate::command_forms::form_of;
 use crate::lines::word_of;
 use crate::putting::{put_both, put_quoted};
+use graph_script::{Name, Param, label_word, name_called, params_of};
 use pw_lists::{Memory, Text};
 
-// The form of a command; nothing where there is no such command.
-fn form_part(name: &[u8]) -> &'static [u8]
-    ensures { result.now ≡ form_part (form_of name.now) }
+// What parameters are called, a space before each.
+fn put_labels(text: &mut Text, params: &[Param]) -> Result<(), Memory>
+    ensures { OnOk result
+        (text.new ≡ text.old ++ spaced (map (λ p. label_word p.label) params.now)) }
 {
-    match form_of(name) {
-        None => b"".as_slice(),
-        Some(form) => form,
+    let mut rest = params;
+    loop {
+        match rest {
+            [] => return Ok(()),
+            [param, more @ ..] => {
+                put_both(text, b" ", label_word(param.label))?;
+                rest = more;
+            }
+        }
+    }
+}
+
+// The form of a command, as `gain NAME G`; nothing where there is no command.
+fn put_form_text(text: &mut Text, name: Option<Name>) -> Result<(), Memory>
+    ensures { OnOk result (text.new ≡ text.old ++ form_text name) }
+{
+    match name {
+        None => Ok(()),
+        Some(name) => {
+            text.extend(graph_script::word_of(name))?;
+            put_labels(text, params_of(name))
+        }
+    }
+}
+
+// Whether it is a command without parameters.
+fn takes_none(name: Option<Name>) -> bool
+    ensures { result ≡ takes_none name }
+{
+    match name {
+        None => false,
+        Some(name) => params_of(name).is_empty(),
     }
 }
 
 // The words that a command takes, by its form.
 #[tactic(auto, unfolding(crate::specs::FormMessages::takes_form))]
-fn put_takes_form(text: &mut Text, form: &[u8]) -> Result<(), Memory>
-    ensures { OnOk result (text.new ≡ text.old ++ takes_form form.now) }
+fn put_takes_form(text: &mut Text, name: Option<Name>) -> Result<(), Memory>
+    ensures { OnOk result (text.new ≡ text.old ++ takes_form name) }
 {
-    put_both(text, b" takes these words: ", form)
+    text.extend(b" takes these words: ")?;
+    put_form_text(text, name)
 }
 
 // What the command takes.
 #[tactic(auto, unfolding(crate::specs::FormMessages::takes_part))]
-fn put_takes(text: &mut Text, name: &[u8]) -> Result<(), Memory>
-    ensures { OnOk result (text.new ≡ text.old ++ takes_part name.now) }
+fn put_takes(text: &mut Text, name: Option<Name>) -> Result<(), Memory>
+    ensures { OnOk result (text.new ≡ text.old ++ takes_part name) }
 {
-    if name == b"drain".as_slice() {
+    if takes_none(name) {
         text.extend(b" takes no words")
     } else {
-        put_takes_form(text, form_part(name))
+        put_takes_form(text, name)
     }
 }
 
@@ -95,6 +127,6 @@ pub fn put_form(text: &mut Text, name: &[u8], line: &[u8]) -> Result<(), Memory>
     ensures { OnOk result (text.new ≡ text.old ++ form_said name.now line.now) }
 {
     put_quoted(text, name)?;
-    put_takes(text, name)?;
+    put_takes(text, name_called(name))?;
     text.extend(comment_part(line))
 }

@@ -7,7 +7,6 @@
 mod byte_faults;
 mod cause_words;
 mod clipped_sinks;
-mod command_forms;
 mod cycle_room;
 mod empty_sinks;
 mod event_words;
@@ -28,7 +27,6 @@ mod nearness;
 mod node_names;
 mod note_heads;
 mod notes;
-mod number_rules;
 mod places;
 mod pod_messages;
 mod port_ends;
@@ -43,6 +41,7 @@ mod sink_notes;
 mod sink_waves;
 mod unknown_names;
 mod usages;
+mod word_rules;
 
 pub use explaining::explain;
 pub use sentences::{message, words_message};

@@ -1,18 +1,31 @@
 //! The lines that make nodes, the one that makes a node of a name, and the kind of node.
 ghost use Rattle.std.specs.Prelude.{◌≡◌, option_copied};
 ghost use Rattle.graph_script.specs.Lexical.{words_of};
-ghost use Rattle.fault_messages.specs.Makers.{is_maker, makes, maker, is_made, kind_in, kind_of};
+ghost use Rattle.fault_messages.specs.Makers.{names_new, is_maker, makes, maker, is_made, kind_in, kind_of};
 ghost use Rattle.fault_messages.specs.Places.{lines_before};
 
-use crate::command_forms::node_form;
 use crate::lines::word_of;
+use graph_script::{Form, Name, name_called, params_of};
 use pw_lists::next_piece;
+
+// Whether the first word of a command names a new node.
+fn names_new(name: Option<Name>) -> bool
+    ensures { result ≡ names_new name }
+{
+    let Some(name) = name else {
+        return false;
+    };
+    match params_of(name) {
+        [] => false,
+        [first, _more @ ..] => matches!(first.form, Form::New),
+    }
+}
 
 /// Whether the line makes a node.
 pub fn is_maker(line: &[u8]) -> bool
     ensures { result ≡ is_maker line.now }
 {
-    node_form(word_of(line, 0)).is_some()
+    names_new(name_called(word_of(line, 0)))
 }
 
 // Whether the line makes a node of this name.

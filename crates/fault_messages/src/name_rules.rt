@@ -1,10 +1,10 @@
-//! Which word of a line has the form of no name, end or file, and what it has to be.
+//! The forms of names and ends, and what they have to be.
 ghost use Rattle.std.specs.Prelude.{◌≡◌, ◌≤◌, length};
 ghost use Rattle.std.specs.List.{list_all};
 ghost use Rattle.graph_script.specs.Lexical.{words_of};
 ghost use Rattle.graph_script.specs.Arguments.{is_letter, is_digit, is_name_byte, is_node_name};
 ghost use Rattle.fault_messages.specs.NameRules.{is_pair, dot_place, end_name, end_port, has_dot, is_end};
-ghost use Rattle.fault_messages.specs.NameRules.{file_place, name_place, has_one_dot, end_rule, name_rule};
+ghost use Rattle.fault_messages.specs.NameRules.{has_one_dot, end_rule};
 
 use crate::lines::word_of;
 
@@ -36,8 +36,8 @@ fn all_name_bytes(word: &[u8]) -> bool
     word.iter().all(|b| is_name_byte(*b))
 }
 
-// Whether the word has the form of a node's name.
-fn is_node_name(word: &[u8]) -> bool
+/// Whether the word has the form of a node's name.
+pub fn is_node_name(word: &[u8]) -> bool
     ensures { result ≡ is_node_name word.now }
 {
     match word {
@@ -89,36 +89,11 @@ fn has_dot(word: &[u8]) -> bool
     dot_place(word) < word.len()
 }
 
-// Whether the word is a name, one dot and a port.
-fn is_end(word: &[u8]) -> bool
+/// Whether the word is a name, one dot and a port.
+pub fn is_end(word: &[u8]) -> bool
     ensures { result ≡ is_end word.now }
 {
     has_dot(word) && !has_dot(end_port(word)) && is_node_name(end_name(word))
-}
-
-fn file_place(name: &[u8]) -> u32
-    ensures { result ≡ file_place name.now }
-{
-    if name == b"offer".as_slice() {
-        3
-    } else if name == b"source".as_slice() || name == b"sink".as_slice() {
-        2
-    } else {
-        1
-    }
-}
-
-/// The place in the line of its first word of another form, where a form is at fault.
-pub fn name_place(line: &[u8]) -> u32
-    ensures { result ≡ name_place (words_of line.now) }
-{
-    if is_pair(line) {
-        if is_end(word_of(line, 1)) { 2 } else { 1 }
-    } else if is_node_name(word_of(line, 1)) {
-        file_place(word_of(line, 0))
-    } else {
-        1
-    }
 }
 
 fn has_one_dot(word: &[u8]) -> bool
@@ -127,26 +102,13 @@ fn has_one_dot(word: &[u8]) -> bool
     has_dot(word) && !has_dot(end_port(word))
 }
 
-// What an end has to be: of one with one dot the name is at fault.
-fn end_rule(word: &[u8]) -> &'static [u8]
+/// What an end has to be: of one with one dot the name is at fault.
+pub fn end_rule(word: &[u8]) -> &'static [u8]
     ensures { result.now ≡ end_rule word.now }
 {
     if has_one_dot(word) {
         b"the name is a lower-case letter and up to 30 of a to z, 0 to 9 and _"
     } else {
         b"an end is NODE.PORT"
-    }
-}
-
-/// What the word at a place has to be.
-pub fn name_rule(line: &[u8], place: u32) -> &'static [u8]
-    ensures { result.now ≡ name_rule (words_of line.now) place }
-{
-    if is_pair(line) {
-        end_rule(word_of(line, place))
-    } else if place == 1 {
-        b"a name is a lower-case letter and up to 30 of a to z, 0 to 9 and _"
-    } else {
-        b"a file word has at most 255 bytes"
     }
 }

@@ -2,7 +2,7 @@
 ghost use Rattle.std.specs.Prelude.{◌≡◌, ◌++◌, option_copied, OnOk};
 ghost use Rattle.graph_script.specs.Lexical.{words_of};
 ghost use Rattle.fault_messages.specs.ScriptMessages.{command_said};
-ghost use Rattle.fault_messages.specs.ScriptMessages.{rule_said, number_said, name_said};
+ghost use Rattle.fault_messages.specs.ScriptMessages.{unfit_said};
 ghost use Rattle.fault_messages.specs.Places.{lines_before};
 ghost use Rattle.fault_messages.specs.ScriptMessages.{unknown_port, taken_said};
 ghost use Rattle.fault_messages.specs.ScriptMessages.{named_text, script_said};
@@ -10,6 +10,7 @@ ghost use Rattle.fault_messages.specs.Makers.{kind_of};
 ghost use Rattle.fault_messages.specs.NameRules.{end_name};
 ghost use Rattle.fault_messages.specs.Nearest.{meant};
 ghost use Rattle.fault_messages.specs.PortEnds.{ends_said};
+ghost use Rattle.fault_messages.specs.WordRules.{unfit_in};
 ghost use Rattle.fault_messages.specs.ScriptWords.{script_text, said_before, said_behind, of_word};
 
 use crate::byte_faults::put_byte;
@@ -17,12 +18,12 @@ use crate::file_messages::limit_said;
 use crate::form_messages::put_form;
 use crate::lines::{begins, word_of};
 use crate::makers::kind_of;
-use crate::name_rules::{end_name, is_pair, name_place, name_rule};
+use crate::name_rules::{end_name, is_pair};
 use crate::nearest::meant;
-use crate::number_rules::{number_place, number_rule};
 use crate::port_ends::{put_ends, put_port};
 use crate::putting::{put_before, put_behind, put_two_quoted};
 use crate::unknown_names::put_unknown_name;
+use crate::word_rules::{put_rule, unfit_in};
 use graph_script::ScriptWhy;
 use pw_lists::{Memory, Text};
 
@@ -57,34 +58,24 @@ fn put_command(text: &mut Text, name: &[u8]) -> Result<(), Memory>
     }
     match meant(name) {
         None => put_behind(text, name, b" is no command"),
-        Some(other) => { put_two_quoted(text, name, b" is no command; did you mean ", other, b"?") }
+        Some(other) => {
+            let other = graph_script::word_of(other);
+            put_two_quoted(text, name, b" is no command; did you mean ", other, b"?")
+        }
     }
 }
 
-// A word and what it has to be.
-fn put_rule(text: &mut Text, word: &[u8], rule: &[u8]) -> Result<(), Memory>
-    ensures { OnOk result (text.new ≡ text.old ++ rule_said word.now rule.now) }
+// The word at fault by its form or its range, with what it has to be.
+fn put_unfit(text: &mut Text, why: ScriptWhy, line: &[u8]) -> Result<(), Memory>
+    ensures { OnOk result (text.new ≡ text.old ++ unfit_said why (unfit_in (words_of line.now))) }
 {
-    put_behind(text, word, b": ")?;
-    text.extend(rule)
-}
-
-fn put_bad_number(text: &mut Text, line: &[u8]) -> Result<(), Memory>
-    ensures { OnOk result (text.new ≡ text.old ++ number_said (words_of line.now)) }
-{
-    let place = number_place(line);
-    put_rule(
-        text,
-        word_of(line, place),
-        number_rule(word_of(line, 0), place),
-    )
-}
-
-fn put_bad_name(text: &mut Text, line: &[u8]) -> Result<(), Memory>
-    ensures { OnOk result (text.new ≡ text.old ++ name_said (words_of line.now)) }
-{
-    let place = name_place(line);
-    put_rule(text, word_of(line, place), name_rule(line, place))
+    match unfit_in(line) {
+        None => text.extend(script_text(why)),
+        Some((param, word)) => {
+            put_behind(text, word, b": ")?;
+            put_rule(text, param, word)
+        }
+    }
 }
 
 // The kind of an end's node, by the lines before the one of this number.
@@ -184,8 +175,7 @@ fn put_named(
         ScriptWhy::Byte => put_byte(text, line),
         ScriptWhy::Command => put_command(text, word_of(line, 0)),
         ScriptWhy::Arguments => put_form(text, word_of(line, 0), line),
-        ScriptWhy::Number => put_bad_number(text, line),
-        ScriptWhy::NameForm => put_bad_name(text, line),
+        ScriptWhy::Number | ScriptWhy::NameForm => put_unfit(text, why, line),
         ScriptWhy::QuantumLate | ScriptWhy::TooMany(_) => text.extend(script_text(why)),
         ScriptWhy::NameUnknown => put_unknown_name(text, line, script, number),
         ScriptWhy::NameTaken => put_taken(text, word_of(line, 1)),
