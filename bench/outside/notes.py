@@ -39,6 +39,10 @@ LINKS = [
      "nolink h.out g.in loop\nnolink g.out g.in loop\n",
      [(11, f'"h.out" to "g.in" is no link: {LATE}'),
       (12, '"g.out" to "g.in" is no link: a node is not linked to itself')]),
+    ("link a.out o.in\nmix2 m 1 1\nmix2 n 1 1\nlink a.out m.a\nlink m.out n.b\n",
+     "link a.out o.in 48000 1 2\nlink a.out m.a 48000 1 2\nlink m.out n.b 48000 1 2\n",
+     [(9, '"m" mixes in silence: no line links anything to its input b'),
+      (10, '"n" mixes in silence: no line links anything to its input a')]),
     ("link a.out o.in\nmeter m\nsink p p.wav\nsink q o.wav\nlink a.out q.in\n",
      "link a.out o.in 48000 1 2\nlink a.out q.in 48000 1 2\n",
      [(5, '"o.wav" is written by a later sink too; a regular file keeps what is written last'),
@@ -170,6 +174,8 @@ def once(place):
     place.same("standard input", (0, text, b"pipegraph: /dev/stdin" + said),
                told(place, ["run", "/dev/stdin"], given=script))
     place.file("own.graph", script.replace(b"o.wav", b"own.graph"))
-    place.same("a script that a sink overwrites", (0, text, b"pipegraph: own.graph" + said),
+    gone = (b'pipegraph: own.graph:5: "own.graph" is the script itself: '
+            b"it was read first, and its text is gone now\n")
+    place.same("a script that a sink overwrites", (0, text, b"pipegraph: own.graph" + said + gone),
                told(place, ["run", "own.graph"]))
     place.same("what is left of it", b"RIFF", place.read("own.graph")[:4])
