@@ -3,6 +3,7 @@ pub mod LayoutLemmas
 pub mod OrderLemmas
 pub mod PlanSumsLemmas
 pub mod PoolLemmas
+pub mod PortOrder
 pub mod PrecedenceLemmas
 pub mod ShapeLemmas
 pub mod WorkedRows

@@ -3,6 +3,8 @@ ghost use Rattle.std.specs.Prelude.{◌≡◌, ℕ, ◌≤◌, max, [], filter, 
 ghost use Rattle.pw_graph.specs.Pools.{is_same_port, is_before, with_port, sources_of, links_from, link_ids_from, asked, blocks_of, channels_of};
 ghost use Rattle.pw_lists.specs.Limits.{links_limit};
 ghost use Rattle.pw_graph.specs.Pools.{words_of};
+ghost use Rattle.pw_graph.specs.working.PortOrder.{Rise};
+ghost use Rattle.std.specs.List.{list_any};
 ghost use Rattle.pw_graph.specs.Pools.{pool_of, pools_of, IsPooledShape};
 
 use crate::ids::{PortId, is_same_port};
@@ -18,11 +20,19 @@ pub fn is_before(p: PortId, q: PortId) -> bool
     p.node < q.node || p.node == q.node && p.port < q.port
 }
 
+// Whether a port is one of these.
+fn is_among(ports: &[PortId], p: PortId) -> bool
+    ensures { result ≡ list_any (λ q. is_same_port q p) ports.now }
+{
+    ports.iter().any(|q| is_same_port(*q, p))
+}
+
 // The ports before this one, it, and those after it.
-fn with_port(alloc: Global, ports: &[PortId], p: PortId) -> Result<Items<PortId>, Memory>
+fn with_new(alloc: Global, ports: &[PortId], p: PortId) -> Result<Items<PortId>, Memory>
     ensures { IfOk result (λ list. list ≡ with_port ports.now p) }
 {
     let mut list = Items::new(alloc);
+    list.reserve(ports.len() + 1)?;
     for q in ports {
         if is_before(*q, p) {
             list.push(*q)?;
@@ -37,13 +47,26 @@ fn with_port(alloc: Global, ports: &[PortId], p: PortId) -> Result<Items<PortId>
     Ok(list)
 }
 
+// The same of ports that ascend, which stay where this one is among them.
+#[tactic(auto, using(crate::proofs::PortOrder::rise_with))]
+fn with_port(alloc: Global, ports: Items<PortId>, p: PortId) -> Result<Items<PortId>, Memory>
+    requires { Rise ports }
+    ensures is { IfOk result (λ list. list ≡ with_port ports p) }
+    ensures rise { IfOk result Rise }
+{
+    if is_among(ports.as_slice(), p) {
+        return Ok(ports);
+    }
+    with_new(alloc, ports.as_slice(), p)
+}
+
 // The output ports that have a link, once each, ascending.
 fn sources_of(alloc: Global, shape: &Shape) -> Result<Items<PortId>, Memory>
     ensures { IfOk result (λ list. list ≡ sources_of shape.now) }
 {
     let mut ports = Items::new(alloc);
     for link in shape.links.as_slice() {
-        ports = with_port(alloc, ports.as_slice(), link.from)?;
+        ports = with_port(alloc, ports, link.from)?;
     }
     Ok(ports)
 }
@@ -124,13 +147,15 @@ fn pool_of(alloc: Global, shape: &Shape, port: PortId) -> Result<PoolShape, Memo
 }
 
 /// The pools of a shape, in the order of their numbers: ascending by node and port of the output.
-/// Cost: for each link one look at each port, and for each port one look at each link.
+/// Cost: for each link one look at each port before it, and for each port two looks at each port
+/// and three at each link.
 pub fn pools_of(alloc: Global, shape: &Shape) -> Result<Items<PoolShape>, Memory>
     requires { IsPooledShape shape.now }
     ensures { IfOk result (λ pools. pools ≡ pools_of shape.now) }
 {
     let ports = sources_of(alloc, shape)?;
     let mut pools = Items::new(alloc);
+    pools.reserve(ports.len())?;
     for port in ports.as_slice() {
         pools.push(pool_of(alloc, shape, *port)?)?;
     }

@@ -1,7 +1,7 @@
 use Rattle.std.proofs.Common.{◌≡◌, ◌∷◌, ◌++◌, take}
 use Rattle.std.specs.Prelude.{filter}
 use Rattle.pw_graph.specs.Pools.{is_before}
-use Rattle.pw_graph.proofs.pooling.with_port.Given as goal
+use Rattle.pw_graph.proofs.pooling.with_new.Given as goal
 
 abbrev pub invariant-loop-q : goal.invariant-loop-q
 invariant-loop-q l = l.list ≡ filter (λ q. is_before q l.p) (take l.q-index l.ports)
