@@ -1,2 +1,3 @@
 pub mod ChunksLemmas
+pub mod PiecesLemmas
 pub mod WavReadingLemmas

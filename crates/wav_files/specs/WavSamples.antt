@@ -11,6 +11,10 @@ samples_in (low ∷ []) = []
 samples_in (low ∷ high ∷ rest) = cast_signed w16 (little_number 2 (low ∷ high ∷ []))
     ∷ samples_in rest
 
+-- the most samples of a piece, in which waves are read and written
+abbrev pub piece_limit : ℕ
+piece_limit = 4096
+
 -- the form of the samples, and their bytes
 abbrev pub Parts : Type 0
 Parts = Form × List ℕ

@@ -7,6 +7,7 @@ mod form;
 mod format_chunk;
 mod header;
 mod outcome;
+mod piece;
 mod reading;
 mod wav;
 mod writing;

@@ -1,15 +1,18 @@
 //! The wave of a file. RIFF WAVE, PCM of 16 bits.
-ghost use Rattle.std.specs.Prelude.{◌≡◌, ◌+◌, ◌*◌, ◌%◌, ◌≤◌, length, IfOk, IfSome, MatchResult};
+ghost use Rattle.std.specs.Prelude.{◌≡◌, ◌+◌, ◌*◌, ◌/◌, ◌%◌, ◌≤◌, ◌++◌, length, vec_len};
+ghost use Rattle.std.specs.Prelude.{vec_capacity, IfOk, IfSome, MatchResult};
 ghost use Rattle.pw_lists.specs.Limits.{wav_bytes_limit};
 ghost use Rattle.wav_files.specs.Chunks.{chunk_at, chunks_of};
 ghost use Rattle.wav_files.specs.FormatChunk.{IsForm};
 ghost use Rattle.wav_files.specs.WavReading.{IsReading, data_of, form_after, parts_from, parts_of, passed, samples_in, wav_of};
+ghost use Rattle.wav_files.specs.WavSamples.{piece_limit};
 ghost use Rattle.wav_files.specs.WavWriting.{IsWave};
 
 use crate::chunks::{FRONT, HEAD, after, body_of, is_data, is_format, is_riff, is_whole, size_of};
 use crate::fault::WavFault;
 use crate::form::Form;
 use crate::format_chunk::form_of;
+use crate::piece::PIECE;
 use crate::wav::Wav;
 use byteorder::{ByteOrder, LittleEndian};
 use pw_lists::{Items, Memory};
@@ -120,14 +123,45 @@ fn parts_of(bytes: &[u8]) -> Result<(Form, &[u8]), WavFault>
     parts_in(&bytes[FRONT..])
 }
 
-/// The samples in bytes of an even number.
+/// Appends the samples in a piece of a file. There is room for them.
+fn append_piece(bytes: &[u8], to: &mut Vec<i16>)
+    requires even { length bytes.now % 2 ≡ 0 }
+    requires piece { length bytes.now ≤ 2 * piece_limit }
+    requires room { vec_len to.old + length bytes.now / 2 ≤ vec_capacity to.old }
+    ensures list { to.new.items ≡ to.old.items ++ samples_in bytes.now }
+    ensures capacity { vec_capacity to.old ≤ vec_capacity to.new }
+{
+    let mut row = [0; PIECE];
+    let samples = &mut row[..bytes.len() / 2];
+    LittleEndian::read_i16_into(bytes, samples);
+    match to.extend_from_slice(samples) {
+        Ok(()) => (),
+        Err(_refused) => unreachable!(),
+    }
+}
+
+/// Appends the samples in bytes of an even number. There is room for them.
+fn append_samples(bytes: &[u8], to: &mut Vec<i16>)
+    requires even { length bytes.now % 2 ≡ 0 }
+    requires room { vec_len to.old + length bytes.now / 2 ≤ vec_capacity to.old }
+    ensures { to.new.items ≡ to.old.items ++ samples_in bytes.now }
+{
+    let mut left = bytes;
+    'pieces: while !left.is_empty() {
+        let (piece, later) = left.split_at(left.len().min(2 * PIECE));
+        append_piece(piece, to);
+        left = later;
+    }
+}
+
+/// The samples in bytes of an even number. The room is made at once.
 fn samples_of(alloc: Global, bytes: &[u8]) -> Result<Items<i16>, Memory>
     requires { length bytes.now % 2 ≡ 0 }
     ensures { IfOk result (λ samples. samples ≡ samples_in bytes.now) }
 {
-    let mut samples = Items::filled(alloc, bytes.len() / 2, 0)?;
-    LittleEndian::read_i16_into(bytes, samples.as_mut_slice());
-    Ok(samples)
+    let mut samples = Vec::with_capacity(alloc, bytes.len() / 2)?;
+    append_samples(bytes, &mut samples);
+    Ok(Items::from_vec(samples))
 }
 
 /// The wave of a file: the format of its first chunk "fmt ", and the samples of its first chunk
