@@ -14,6 +14,7 @@ pub mod HaveTriedLemmas
 pub mod LoopTriesLemmas
 pub mod PassLemmas
 pub mod PairLemmas
+pub mod DealtLemmas
 pub mod SameLemmas
 pub mod MemberLemmas
 pub mod RoomLemmas

@@ -4,6 +4,7 @@
 //! and gives in its pools what its outputs give in that cycle.
 #![tactic(auto)]
 
+mod dealing;
 mod did;
 mod driving;
 mod epoch_context;

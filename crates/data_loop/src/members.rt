@@ -7,9 +7,11 @@ ghost use Rattle.pw_graph.specs.PlanForms.{kind_at};
 ghost use Rattle.pw_graph.specs.Pools.{pools_of, is_same_port};
 ghost use Rattle.cycle_model.specs.Epochs.{channels_of};
 ghost use Rattle.data_loop.specs.turns.Ends.{fills_of};
+ghost use Rattle.data_loop.specs.Dealt.{AreDealt};
 ghost use Rattle.data_loop.specs.Gathering.{inputs_of};
 ghost use Rattle.data_loop.specs.Members.{input_width, is_read, output_width, member_of, has_role, members_by};
 
+use crate::dealing::deal;
 use crate::inputs::Input;
 use crate::member::Member;
 use node_progress::{takes_part, works_in};
@@ -17,7 +19,10 @@ use pw_graph::{Epoch, Plan, PoolShape, PortForm, PortId, Shape, is_same_port};
 use pw_lists::{Items, Memory};
 use std::alloc::Global;
 
-// The links into a node, each with its input, ascending.
+// For so few nodes a look at each link takes no longer than to deal them.
+const FEW: usize = 4;
+
+// The links into a node, each with its input, ascending, by a look at each link.
 fn inputs_of(alloc: Global, shape: &Shape, node: u32) -> Result<Items<Input>, Memory>
     requires few { length shape.now.links ≤ links_limit }
     ensures { IfOk result (λ inputs. inputs ≡ inputs_of shape.now node) }
@@ -34,6 +39,35 @@ fn inputs_of(alloc: Global, shape: &Shape, node: u32) -> Result<Items<Input>, Me
         }
     }
     Ok(inputs)
+}
+
+// The links into a node: those that were dealt to it, or else by a look at each.
+fn inputs_among(
+    alloc: Global,
+    shape: &Shape,
+    dealt: &[Items<Input>],
+    node: u32,
+) -> Result<Items<Input>, Memory>
+    requires few { length shape.now.links ≤ links_limit }
+    requires dealt { AreDealt shape.now dealt.now }
+    ensures { IfOk result (λ inputs. inputs ≡ inputs_of shape.now node) }
+{
+    match dealt.get(node as usize) {
+        Some(inputs) => inputs.copy(alloc),
+        None => inputs_of(alloc, shape, node),
+    }
+}
+
+// The links dealt to their nodes where many nodes read them, or nothing.
+fn dealt_to(alloc: Global, shape: &Shape, nodes: usize) -> Result<Items<Items<Input>>, Memory>
+    requires few { length shape.now.links ≤ links_limit }
+    ensures { IfOk result (AreDealt shape.now) }
+{
+    if nodes <= FEW {
+        Ok(Items::new(alloc))
+    } else {
+        deal(alloc, shape)
+    }
 }
 
 // The numbers of the pools of a node, ascending.
@@ -120,18 +154,20 @@ fn member_of(
     plan: &Plan,
     epoch: &Epoch,
     pools: &[PoolShape],
+    dealt: &[Items<Input>],
     node: u32,
     at: u32,
 ) -> Result<Member, Memory>
     requires few { (length epoch.now.shape.links ≤ links_limit)
         × (length pools.now ≤ links_limit) }
     requires pools { pools.now ≡ pools_of epoch.now.shape }
+    requires dealt { AreDealt epoch.now.shape dealt.now }
     ensures { IfOk result (λ m. m ≡ member_of plan.now epoch.now node at) }
 {
     Ok(Member {
         node,
         at,
-        inputs: inputs_of(alloc, &epoch.shape, node)?,
+        inputs: inputs_among(alloc, &epoch.shape, dealt, node)?,
         pools: fills_of(alloc, &epoch.shape, pools, node)?,
         first_output: input_count(plan, node),
         first_width: input_width(plan, epoch, node, 0),
@@ -169,10 +205,13 @@ pub(crate) fn members_by(
     ensures { IfOk result
         (λ members. members ≡ members_by plan.now nodes.now epoch.now leads) }
 {
+    let readers = if leads { 1 } else { nodes.len() };
+    let dealt = dealt_to(alloc, &epoch.shape, readers)?;
     let mut members = Items::new(alloc);
     for at in 0..nodes.len() {
-        if has_role(epoch, nodes[at], leads) {
-            members.push(member_of(alloc, plan, epoch, pools, nodes[at], at as u32)?)?;
+        let node = nodes[at];
+        if has_role(epoch, node, leads) {
+            members.push(member_of(alloc, plan, epoch, pools, dealt.as_slice(), node, at as u32)?)?;
         }
     }
     Ok(members)
