@@ -4,7 +4,7 @@ use Rattle.std.proofs.Common.{refl, sym, ap, ◌∙◌, subst, arith, ⊎_elim}
 use mir.Val.{bool_byte}
 use Rattle.std.specs.List.{enumerate_from}
 use Rattle.std.proofs.lemmas.Bool.{cases_Bool, cases_order}
-use Rattle.std.proofs.lemmas.List.{get_or-map, length-map}
+use Rattle.std.proofs.lemmas.List.{get_or-map, length-map, take_all}
 use Rattle.std.proofs.lemmas.List.Filters.{length-filter_more}
 use Rattle.std.proofs.lemmas.List.FromFn.{length-enumerate_from, get_or-enumerate_from}
 use Rattle.pw_graph.specs.declared.pools.PoolShape.{PoolShape}
@@ -84,6 +84,10 @@ one_byte false = refl
 
 pub few_own : (nodes : List ℕ) (pools : List PoolShape) (i : ℕ) → length (own_pools nodes (take i pools)) ≤ i
 few_own nodes pools i = before_few (is_own nodes) pools i
+
+pub few_all : (nodes : List ℕ) (pools : List PoolShape) → length (own_pools nodes pools) ≤ length pools
+few_all nodes pools = let all = take_all (length pools) pools (omega arith) in
+    subst (λ (l : List PoolShape). length (own_pools nodes l) ≤ length pools) all (few_own nodes pools (length pools))
 
 -- the pools of these nodes among all, as a loop has them
 module _ (nodes : List ℕ) (pools : List PoolShape) (own : OwnPools) (places : own.places ≡ own_places nodes pools)

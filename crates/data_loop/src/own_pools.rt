@@ -27,18 +27,6 @@ fn is_among(nodes: &[u32], node: u32) -> bool
     nodes.iter().any(|own| *own == node)
 }
 
-// How many of the pools are those of these nodes.
-fn count_own(nodes: &[u32], pools: &[PoolShape]) -> u16
-    requires few { length pools.now ≤ links_limit }
-    ensures { result ≡ length (own_pools nodes.now pools.now) }
-{
-    let mut count = 0;
-    for pool in pools {
-        count += u16::from(is_among(nodes, pool.port.node));
-    }
-    count
-}
-
 // The place of an own pool is after those before it, that of another after all.
 fn place_for(own: bool, before: u16, count: u16) -> u16
     ensures { result ≡ (if own then before else count) }
@@ -46,12 +34,18 @@ fn place_for(own: bool, before: u16, count: u16) -> u16
     if own { before } else { count }
 }
 
-// The place of each pool: how many of the nodes' own are before it, or how many there are.
-fn places_of(alloc: Global, nodes: &[u32], pools: &[PoolShape]) -> Result<Items<u16>, Memory>
+// The place of each pool: how many of the nodes' own are before it, or how many there are, which is
+// `count`.
+fn places_of(
+    alloc: Global,
+    nodes: &[u32],
+    pools: &[PoolShape],
+    count: u16,
+) -> Result<Items<u16>, Memory>
     requires few { length pools.now ≤ links_limit }
+    requires count { count ≡ length (own_pools nodes.now pools.now) }
     ensures { IfOk result (λ places. places ≡ own_places nodes.now pools.now) }
 {
-    let count = count_own(nodes, pools);
     let mut places = Items::new(alloc);
     places.reserve(pools.len())?;
     let mut before = 0;
@@ -113,8 +107,9 @@ pub(crate) fn pools_among(
     requires pools { All (λ x. (1 ≤ x.blocks) × (x.blocks ≤ buffers_limit)) pools.now }
     ensures { IfOk result (AreFirstPools shape.now nodes.now pools.now) }
 {
-    let places = places_of(alloc, nodes, pools)?;
     let shapes = shapes_of(alloc, nodes, pools)?;
+    let count = shapes.len() as u16;
+    let places = places_of(alloc, nodes, pools, count)?;
     let free = free_of(alloc, shape, shapes.as_slice())?.into_vec();
     Ok(OwnPools {
         places,

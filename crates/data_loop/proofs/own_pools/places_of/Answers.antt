@@ -23,9 +23,9 @@ loop-pool-preserved c = let nodes = c.args.nodes.now in let pools = c.args.pools
     let long = length-enumerate_from 0 pools in let d : ℕ × PoolShape = (0, x) in
     let z : 0 + i ≡ i = omega arith in
     let value : c.place_for.result ≡ own_place nodes pools (get_or (enumerate_from 0 pools) i d) = c.place_for.ensures
-    ∙ ap (λ b. cond b c.loop-pool.before c.count_own-count.result) c.is_among-own.ensures
-    ∙ ap (λ (y : PoolShape). cond (is_own nodes y) c.loop-pool.before c.count_own-count.result) c.pool-item.is
-    ∙ ap₂ (λ a b. cond (is_own nodes (get_or pools i x)) a b) so_far.before c.count_own-count.ensures
+    ∙ ap (λ b. cond b c.loop-pool.before c.args.count) c.is_among-own.ensures
+    ∙ ap (λ (y : PoolShape). cond (is_own nodes y) c.loop-pool.before c.args.count) c.pool-item.is
+    ∙ ap₂ (λ a b. cond (is_own nodes (get_or pools i x)) a b) so_far.before c.requires.count
     ∙ ap (λ n. own_place nodes pools (n, get_or pools i x)) (sym z)
     ∙ ap (own_place nodes pools) (sym (get_or-enumerate_from 0 pools i d low)) in
     record {

@@ -1,6 +1,0 @@
-use Rattle.std.proofs.Common.{◌≡◌, length, take}
-use Rattle.data_loop.specs.OwnPools.{own_pools}
-use Rattle.data_loop.proofs.own_pools.count_own.Given as goal
-
-abbrev pub invariant-loop-pool : goal.invariant-loop-pool
-invariant-loop-pool l = l.count ≡ length (own_pools l.nodes (take l.pool-index l.pools))
