@@ -29,11 +29,12 @@ AreGoneThrough boards ways [] s a t b = (t ≡ s) × (b ≡ a)
 AreGoneThrough boards ways (m ∷ ms) s a t b = HasGoneThrough boards ways s a m.0 m.1
     × AreGoneThrough boards ways ms m.0 m.1 t b
 
--- all epochs that were left
+-- some epochs, however many; whether one is left is not said here
 abbrev pub HasGoneOn : List Board → Ways → LoopState → Way → LoopState → Way → Type 0
 HasGoneOn boards ways s a t b = (after : List (LoopState × Way))
     × AreGoneThrough boards ways after s a t b
 
--- the way was started, and then the loop went through all epochs that were left
+-- the way was started, and then the loop went through some epochs; that none is left is said by
+-- `IsDone`, beside it
 abbrev pub HasRunAll : List Board → Ways → LoopState → Way → LoopState → Way → Type 0
 HasRunAll boards ways s a t b = (way : Way) × HasStarted a way × HasGoneOn boards ways s way t b

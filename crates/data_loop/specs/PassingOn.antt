@@ -14,7 +14,8 @@ use Rattle.data_loop.specs.LoopsOnBoards.{HasTurnedOnce}
 use Rattle.data_loop.specs.LoopTries.{HasWoken}
 use Rattle.data_loop.specs.LoopWay.{RestsAtMost}
 
--- each node of the set was sent to its loop, whose thread was unparked, unless it is the way's own
+-- each node of the set was sent to its loop, and came back where it was not pushed; the loop's
+-- thread was unparked, unless it is the way's own, and the driver's as `HasForwarded` has it
 abbrev pub Forwards : Ways → ℕ → Way → Way → Type 0
 Forwards ways woke a b = (full : ℕ) × HasForwarded ways.owner ways.loops woke full a b
 
@@ -33,8 +34,8 @@ HasRunOne p ways s a t b = (node : ℕ) × HasTurnedOnce p s (Ran node) t × Has
 abbrev pub HasRunNone : BoardLayout → LoopState → Way → LoopState → Way → Type 0
 HasRunNone p s a t b = HasTurnedOnce p s Idle t × (t.found.items ≢ []) × RestsAtMost a b
 
--- ONE TURN, whose answer is whether no follower has cycles left: then none was tried, and there was
--- no rest
+-- ONE TURN, whose answer is whether it found no follower with cycles left: then none was tried too
+-- early, and there was no rest
 abbrev pub HasTriedAll : Bool → BoardLayout → Ways → LoopState → Way → LoopState → Way
     → Type 0
 HasTriedAll true p ways s a t b = HasTurnedOnce p s Idle t × (t.found.items ≡ []) × (b ≡ a)
