@@ -1,10 +1,10 @@
 -- The pools of a loop's nodes among those of an epoch: each has a place of its own.
-use Rattle.std.proofs.Common.{◌≡◌, ℕ, zero, suc, ◌+◌, ◌<◌, ◌≤◌, Bool, true, false, cond, List, [], ◌∷◌, length, map, get_or, take, filter}
-use Rattle.std.proofs.Common.{refl, sym, ap, ◌∙◌, subst, arith, ⊎_elim}
-use mir.Val.{bool_byte}
+use Rattle.std.proofs.Common.{◌≡◌, ℕ, zero, suc, ◌+◌, ◌-◌, ◌<◌, ◌≤◌, Bool, true, false, cond, List, [], ◌∷◌, ◌++◌, length, map, get_or, take, filter}
+use Rattle.std.proofs.Common.{append-nil, refl, sym, ap, ◌∙◌, subst, arith, ⊎_elim}
+use Rattle.std.specs.Prelude.{set, replicate}
 use Rattle.std.specs.List.{enumerate_from}
 use Rattle.std.proofs.lemmas.Bool.{cases_Bool, cases_order}
-use Rattle.std.proofs.lemmas.List.{get_or-map, length-map, take_all}
+use Rattle.std.proofs.lemmas.List.{get_or-map, length-map, length-take-le, map_more, take_all}
 use Rattle.std.proofs.lemmas.List.Filters.{length-filter_more}
 use Rattle.std.proofs.lemmas.List.FromFn.{length-enumerate_from, get_or-enumerate_from}
 use Rattle.pw_graph.specs.declared.pools.PoolShape.{PoolShape}
@@ -78,16 +78,81 @@ pub own_more : (nodes : List ℕ) (pools : List PoolShape) (i : ℕ) (d : PoolSh
     → length (own_pools nodes (take (i + 1) pools)) ≡ length (own_pools nodes (take i pools)) + cond (is_own nodes (get_or pools i d)) 1 0
 own_more nodes pools i d low = length-filter_more (is_own nodes) pools i d low
 
-pub one_byte : (b : Bool) → bool_byte b ≡ cond b 1 0
-one_byte true = refl
-one_byte false = refl
-
 pub few_own : (nodes : List ℕ) (pools : List PoolShape) (i : ℕ) → length (own_pools nodes (take i pools)) ≤ i
 few_own nodes pools i = before_few (is_own nodes) pools i
 
 pub few_all : (nodes : List ℕ) (pools : List PoolShape) → length (own_pools nodes pools) ≤ length pools
 few_all nodes pools = let all = take_all (length pools) pools (omega arith) in
     subst (λ (l : List PoolShape). length (own_pools nodes l) ≤ length pools) all (few_own nodes pools (length pools))
+
+-- the places of the first i pools, and of the others where none of them is an own one
+module _ (nodes : List ℕ) (pools : List PoolShape) (i : ℕ) (d : PoolShape) (low : i < length pools) where
+  abbrev all : ℕ
+  all = length (own_pools nodes pools)
+
+  abbrev pub placed : ℕ → List ℕ
+  placed k = map (own_place nodes pools) (take k (enumerate_from 0 pools)) ++ replicate (length pools - k) all
+
+  abbrev first : List ℕ
+  first = map (own_place nodes pools) (take i (enumerate_from 0 pools))
+
+  abbrev rest : ℕ
+  rest = length pools - (i + 1)
+
+  put : (xs : List ℕ) (m v : ℕ) → set (xs ++ replicate (suc m) all) (length xs) v ≡ (xs ++ v ∷ []) ++ replicate m all
+  put [] m v = refl
+  put (x ∷ xs) m v = ap (λ l. x ∷ l) (put xs m v)
+
+  stays : (xs : List ℕ) (m : ℕ) → xs ++ replicate (suc m) all ≡ (xs ++ all ∷ []) ++ replicate m all
+  stays [] m = refl
+  stays (x ∷ xs) m = ap (λ l. x ∷ l) (stays xs m)
+
+  first_long : length first ≡ i
+  first_long = let long = length-enumerate_from 0 pools in length-map (take i (enumerate_from 0 pools)) (own_place nodes pools)
+      ∙ length-take-le i (enumerate_from 0 pools) (omega (arith, low, long))
+
+  now : placed i ≡ first ++ replicate (suc rest) all
+  now = let e : length pools - i ≡ suc rest = omega (arith, low) in ap (λ k. first ++ replicate k all) e
+
+  next : (b : Bool) → is_own nodes (get_or pools i d) ≡ b
+      → placed (i + 1) ≡ (first ++ cond b (length (own_pools nodes (take i pools))) all ∷ []) ++ replicate rest all
+  next b is = let long = length-enumerate_from 0 pools in let z : 0 + i ≡ i = omega arith in
+      let e : ℕ × PoolShape = (0, d) in
+      let value : own_place nodes pools (get_or (enumerate_from 0 pools) i e) ≡ cond b (length (own_pools nodes (take i pools))) all =
+      ap (own_place nodes pools) (get_or-enumerate_from 0 pools i e low)
+      ∙ ap (λ n. own_place nodes pools (n, get_or pools i d)) z
+      ∙ ap (λ t. cond t (length (own_pools nodes (take i pools))) all) is in
+      ap (λ (l : List ℕ). l ++ replicate rest all) (map_more (own_place nodes pools) (enumerate_from 0 pools) i e (omega (arith, low, long))
+      ∙ ap (λ n. first ++ n ∷ []) value)
+
+  -- an own one has the place after those before it; another has the place that it had
+  pub place_own : (places : List ℕ) (before : ℕ) → is_own nodes (get_or pools i d) ≡ true → places ≡ placed i
+      → before ≡ length (own_pools nodes (take i pools)) → set places i before ≡ placed (i + 1)
+  place_own places before passes is b = ap (λ (l : List ℕ). set l i before) (is ∙ now)
+      ∙ ap (λ k. set (first ++ replicate (suc rest) all) k before) (sym first_long)
+      ∙ put first rest before
+      ∙ ap (λ n. (first ++ n ∷ []) ++ replicate rest all) b
+      ∙ sym (next true passes)
+
+  pub place_other : (places : List ℕ) → is_own nodes (get_or pools i d) ≡ false → places ≡ placed i → places ≡ placed (i + 1)
+  place_other places miss is = is ∙ now ∙ stays first rest ∙ sym (next false miss)
+
+  pub before_own : (before : ℕ) → is_own nodes (get_or pools i d) ≡ true → before ≡ length (own_pools nodes (take i pools))
+      → before + 1 ≡ length (own_pools nodes (take (i + 1) pools))
+  before_own b passes is = let more = own_more nodes pools i d low in
+      let one = ap {B = ℕ} (λ b. cond b 1 0) passes in omega (arith, more, one, is)
+
+  pub before_other : (before : ℕ) → is_own nodes (get_or pools i d) ≡ false → before ≡ length (own_pools nodes (take i pools))
+      → before ≡ length (own_pools nodes (take (i + 1) pools))
+  before_other b miss is = let more = own_more nodes pools i d low in
+      let none = ap {B = ℕ} (λ b. cond b 1 0) miss in omega (arith, more, none, is)
+
+pub placed_all : (nodes : List ℕ) (pools : List PoolShape) (k : ℕ) → length pools ≤ k
+    → map (own_place nodes pools) (take k (enumerate_from 0 pools)) ++ replicate (length pools - k) (length (own_pools nodes pools))
+    ≡ own_places nodes pools
+placed_all nodes pools k past = let long = length-enumerate_from 0 pools in let none : length pools - k ≡ 0 = omega (arith, past) in
+    ap (λ m. map (own_place nodes pools) (take k (enumerate_from 0 pools)) ++ replicate m (length (own_pools nodes pools))) none
+    ∙ append-nil _ ∙ ap (map (own_place nodes pools)) (take_all k (enumerate_from 0 pools) (omega (arith, long, past)))
 
 -- the pools of these nodes among all, as a loop has them
 module _ (nodes : List ℕ) (pools : List PoolShape) (own : OwnPools) (places : own.places ≡ own_places nodes pools)

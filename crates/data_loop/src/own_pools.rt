@@ -1,5 +1,5 @@
 //! The pools that the nodes of a loop fill in an epoch.
-ghost use Rattle.std.specs.Prelude.{◌≡◌, ◌≤◌, if◌then◌else◌, All, IfOk, length, map};
+ghost use Rattle.std.specs.Prelude.{◌≡◌, ◌≤◌, All, IfOk, length, map};
 ghost use Rattle.pw_lists.specs.Limits.{links_limit, buffers_limit};
 ghost use Rattle.io_areas.specs.FreeBlocks.{free_at_start};
 ghost use Rattle.data_loop.specs.OwnPools.{is_among, own_pools, own_places, AreFirstPools};
@@ -27,13 +27,6 @@ fn is_among(nodes: &[u32], node: u32) -> bool
     nodes.iter().any(|own| *own == node)
 }
 
-// The place of an own pool is after those before it, that of another after all.
-fn place_for(own: bool, before: u16, count: u16) -> u16
-    ensures { result ≡ (if own then before else count) }
-{
-    if own { before } else { count }
-}
-
 // The place of each pool: how many of the nodes' own are before it, or how many there are, which is
 // `count`.
 fn places_of(
@@ -46,15 +39,15 @@ fn places_of(
     requires count { count ≡ length (own_pools nodes.now pools.now) }
     ensures { IfOk result (λ places. places ≡ own_places nodes.now pools.now) }
 {
-    let mut places = Items::new(alloc);
-    places.reserve(pools.len())?;
+    let mut places = Items::filled(alloc, pools.len(), count)?.into_vec();
     let mut before = 0;
-    for pool in pools {
-        let own = is_among(nodes, pool.port.node);
-        places.push(place_for(own, before, count))?;
-        before += u16::from(own);
+    for q in 0..pools.len() {
+        if is_among(nodes, pools[q].port.node) {
+            places[q] = before;
+            before += 1;
+        }
     }
-    Ok(places)
+    Ok(Items::from_vec(places))
 }
 
 // A copy of a pool.
