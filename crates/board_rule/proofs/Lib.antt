@@ -10,6 +10,7 @@ pub mod StepLemmas
 pub mod WordLemmas
 pub mod LayoutLemmas
 pub mod IndexLemmas
+pub mod PoolLinkLemmas
 pub mod activation
 pub mod events
 pub mod buffers

@@ -1,12 +1,14 @@
 //! The words that a board begins with.
-ghost use Rattle.std.specs.Prelude.{◌≡◌, ◌+◌, ◌-◌, ◌&&◌, ◌∷◌, ◌++◌, [], count_by, OnOk, IfOk, replicate};
+ghost use Rattle.std.specs.Prelude.{◌≡◌, ◌+◌, ◌-◌, ◌<◌, ◌≤◌, ◌∷◌, ◌++◌, [], cond, count_by, length, OnOk, IfOk};
+ghost use Rattle.std.specs.Prelude.{replicate};
 ghost use Rattle.std.specs.List.{flat_map};
-ghost use Rattle.pw_graph.specs.Pools.{IsPooledShape, is_same_port, pools_of};
+ghost use Rattle.pw_graph.specs.Pools.{IsPooledShape, link_ids_from, links_from, pools_of};
+ghost use Rattle.board_rule.specs.buffers.EndViews.{link_in};
 ghost use Rattle.pw_graph.specs.Words.{not_triggered_word};
 ghost use Rattle.pw_graph.specs.Layout.{start_words, io_start, pool_words, pool_start};
 
 use crate::steps::statuses::not_triggered;
-use pw_graph::{AreaStatus, NO_BLOCK, PoolShape, PortId, Shape, ShapeLink, io_word, is_same_port};
+use pw_graph::{AreaStatus, NO_BLOCK, PoolShape, Shape, ShapeLink, io_word};
 use pw_lists::{Items, Memory};
 use std::alloc::Global;
 
@@ -44,15 +46,27 @@ fn push_areas(words: &mut Items<u64>, links: &[ShapeLink], first: u32) -> Result
     Ok(())
 }
 
-/// How many delayed links go from a port.
-pub(crate) fn delayed_readers(links: &[ShapeLink], port: PortId) -> u64
-    ensures { result ≡ count_by (λ l. l.delayed && is_same_port l.from port) links.now }
+// 1 where a link of a shape is delayed.
+fn late_of(shape: &Shape, link: u32) -> u64
+    requires { link < length shape.now.links }
+    ensures is { result ≡ cond (link_in shape.now link).delayed 1 0 }
+    ensures most { result ≤ 1 }
+{
+    if shape.links.as_slice()[link as usize].delayed {
+        1
+    } else {
+        0
+    }
+}
+
+/// How many links of a pool are delayed. Cost: a look at each of them.
+pub(crate) fn delayed_readers(shape: &Shape, pool: &PoolShape) -> u64
+    requires { pool.now.links ≡ link_ids_from shape.now.links pool.now.port }
+    ensures { result ≡ count_by (λ l. l.delayed) (links_from shape.now pool.now.port) }
 {
     let mut late = 0;
-    for link in links {
-        if link.delayed && is_same_port(link.from, port) {
-            late += 1;
-        }
+    for id in pool.links.as_slice() {
+        late += late_of(shape, *id);
     }
     late
 }
@@ -69,13 +83,10 @@ fn push_zeros(words: &mut Items<u64>, pool: &PoolShape, readers: u64) -> Result<
 
 // The words of a pool: all 0, but that the readers word of block 0 counts the pool's delayed links.
 fn push_pool(words: &mut Items<u64>, shape: &Shape, pool: &PoolShape) -> Result<(), Memory>
+    requires { pool.now.links ≡ link_ids_from shape.now.links pool.now.port }
     ensures { OnOk result (words.new ≡ words.old ++ pool_start shape.now pool.now) }
 {
-    push_zeros(
-        words,
-        pool,
-        delayed_readers(shape.links.as_slice(), pool.port),
-    )
+    push_zeros(words, pool, delayed_readers(shape, pool))
 }
 
 // The words of all pools.

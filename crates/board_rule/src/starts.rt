@@ -1,7 +1,7 @@
 //! What the nodes, the links and the blocks of a board are at the start, of which each seat takes
 //! its own.
 ghost use Rattle.std.specs.Prelude.{◌≡◌, ◌++◌, IfOk, OnOk, length, map, replicate};
-ghost use Rattle.pw_graph.specs.Pools.{pools_of};
+ghost use Rattle.pw_graph.specs.Pools.{link_ids_from, pools_of};
 ghost use Rattle.board_rule.specs.Layout.{layout_of};
 ghost use Rattle.board_rule.specs.start.Owners.{own};
 ghost use Rattle.board_rule.specs.working.Progress.{progress_of};
@@ -29,9 +29,10 @@ pub struct Starts {
 
 // The blocks of a pool at the start, after those of the pools before it.
 fn push_blocks(blocks: &mut Items<BlockView>, shape: &Shape, pool: &PoolShape) -> Result<(), Memory>
+    requires { pool.now.links ≡ link_ids_from shape.now.links pool.now.port }
     ensures { OnOk result (blocks.new ≡ blocks.old ++ blocks_at_first shape.now pool.now) }
 {
-    if delayed_readers(shape.links.as_slice(), pool.port) == 0 {
+    if delayed_readers(shape, pool) == 0 {
         return blocks.extend_filled(pool.blocks as usize, BlockView::Free);
     }
     blocks.push(BlockView::Out {

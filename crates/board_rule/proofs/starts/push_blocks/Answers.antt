@@ -1,19 +1,17 @@
 use Rattle.std.proofs.Common.{OnOk, ◌≡◌, ◌-◌, ◌<◌, ◌∷◌, ◌++◌, [], ◌∙◌, ap, sym, subst, replicate, List, Bool, true, false, cond, arith}
-use Rattle.std.specs.Prelude.{count_by, ◌&&◌}
+use Rattle.std.specs.Prelude.{count_by}
 use Rattle.std.specs.List.{list_any}
 use Rattle.pw_graph.specs.declared.shape.ShapeLink.{ShapeLink}
-use Rattle.pw_graph.specs.Pools.{is_same_port, links_from}
+use Rattle.pw_graph.specs.Pools.{links_from}
 use Rattle.board_rule.specs.declared.view.BlockView.{BlockView}
 use Rattle.board_rule.specs.declared.view.BlockView.TheVariants.{Free, Out}
-use Rattle.board_rule.proofs.LayoutLemmas.{counted_both, any_counted}
+use Rattle.board_rule.proofs.LayoutLemmas.{any_counted}
 use Rattle.std.proofs.lemmas.List.{append_assoc}
 use Rattle.board_rule.proofs.starts.push_blocks.Goals as goal
 
 pub returns-then-delayed_readers-eq0 : goal.returns-then-delayed_readers-eq0
 returns-then-delayed_readers-eq0 c = let x = c.args.pool.now in let shape = c.args.shape.now in
-    let count : c.delayed_readers.result ≡ count_by (λ (l : ShapeLink). l.delayed) (links_from shape x.port) = c.delayed_readers.ensures
-    ∙ ap (λ (xs : List ShapeLink). count_by (λ l. l.delayed && is_same_port l.from x.port) xs) c.as_slice.ensures
-    ∙ sym (counted_both (λ (l : ShapeLink). l.delayed) (λ l. is_same_port l.from x.port) shape.links) in
+    let count : c.delayed_readers.result ≡ count_by (λ (l : ShapeLink). l.delayed) (links_from shape x.port) = c.delayed_readers.ensures in
     let none : count_by (λ (l : ShapeLink). l.delayed) (links_from shape x.port) ≡ 0 = (let z = c.if-delayed_readers-eq0.true in omega arith) in
     let late : list_any (λ (l : ShapeLink). l.delayed) (links_from shape x.port) ≡ false =
     (any_counted (λ (l : ShapeLink). l.delayed) (links_from shape x.port)).0 none in
@@ -22,9 +20,7 @@ returns-then-delayed_readers-eq0 c = let x = c.args.pool.now in let shape = c.ar
 
 pub returns : goal.returns
 returns c = let x = c.args.pool.now in let shape = c.args.shape.now in
-    let count : c.delayed_readers.result ≡ count_by (λ (l : ShapeLink). l.delayed) (links_from shape x.port) = c.delayed_readers.ensures
-    ∙ ap (λ (xs : List ShapeLink). count_by (λ l. l.delayed && is_same_port l.from x.port) xs) c.as_slice.ensures
-    ∙ sym (counted_both (λ (l : ShapeLink). l.delayed) (λ l. is_same_port l.from x.port) shape.links) in
+    let count : c.delayed_readers.result ≡ count_by (λ (l : ShapeLink). l.delayed) (links_from shape x.port) = c.delayed_readers.ensures in
     let some : 0 < count_by (λ (l : ShapeLink). l.delayed) (links_from shape x.port) = (let z = c.if-delayed_readers-eq0.false in omega arith) in
     let late : list_any (λ (l : ShapeLink). l.delayed) (links_from shape x.port) ≡ true =
     (any_counted (λ (l : ShapeLink). l.delayed) (links_from shape x.port)).1 some in
