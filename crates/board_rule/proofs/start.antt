@@ -4,6 +4,7 @@ pub mod StartLemmas
 pub mod StartWordLemmas
 pub mod BufferStartLemmas
 pub mod OwnerLemmas
+pub mod DealLemmas
 pub mod SlotLemmas
 pub mod SeatRangeLemmas
 pub mod EntryLemmas

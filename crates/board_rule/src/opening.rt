@@ -1,27 +1,34 @@
 //! How a board begins: its words at the start, and its seats split off the first one.
 ghost use Rattle.board_rule.specs.OnBoard.{IsOn, layout};
-ghost use Rattle.std.specs.Prelude.{◌≡◌, ℕ, ◌<◌, length, slice_get, Some, IfOk};
+ghost use Rattle.std.specs.Prelude.{◌≡◌, ℕ, ◌+◌, ◌<◌, length, slice_get, Some, IfOk};
 ghost use Rattle.pw_graph.specs.Layout.{event_count};
 ghost use Rattle.pw_graph.specs.Pools.{IsPooledShape, pools_of};
 ghost use Rattle.board_rule.specs.Known.{Known};
 ghost use Rattle.board_rule.specs.Layout.{layout_of, HasSeats};
 ghost use Rattle.board_rule.specs.buffers.SampleWords.{IsTable};
-ghost use Rattle.board_rule.specs.working.Slots.{IsStart};
+ghost use Rattle.board_rule.specs.start.Owners.{own, owners_of};
+ghost use Rattle.board_rule.specs.working.NodeIndexes.{AreIndexes};
+ghost use Rattle.board_rule.specs.working.Shares.{HasShares};
+ghost use Rattle.board_rule.specs.working.Slots.{AreOwners};
 ghost use Rattle.board_rule.specs.View.{Samples, first_view, driver_view, loop_view, split_off};
 
 use crate::board::Board;
 use crate::board_shape::BoardShape;
 use crate::copying::copy_shape;
+use crate::dealing::take;
 use crate::driver_seat::DriverSeat;
 use crate::expect::Expect;
 use crate::layout::start_words;
 use crate::lead::lead_at;
 use crate::loop_seat::LoopSeat;
+use crate::node_indexes::indexes_of;
+use crate::owners::OwnerRows;
 use crate::rows::rows_of;
 use crate::rule::{BoardTable, BoardToken};
+use crate::shares::{Shares, shares_of};
 use crate::slots::slots_in;
-use crate::starts::{Starts, own, starts_of};
-use crate::view::View;
+use crate::starts::starts_of;
+use crate::view::{ReadView, View};
 use atomic_table::{Split, Table};
 use pw_graph::{PoolShape, Shape, pools_of};
 use pw_lists::{Items, Memory};
@@ -72,60 +79,41 @@ fn split<C: Cut>(board: &Board, token: &mut BoardToken) -> BoardToken
 }
 
 impl DriverSeat {
-    // Splits the next loop's seat off the driver's, which begins with what is its own.
+    // Splits the next loop's seat off the driver's, which begins with its share. Takes no memory.
     fn split_off<E: Expect>(
         &mut self,
         alloc: Global,
         board: &Board,
-        starts: &Starts,
+        shares: &mut Shares,
         seat: u32,
-    ) -> Result<LoopSeat, Memory>
+    ) -> LoopSeat
         requires table { IsOn board.now self.old.table }
         requires is_driver { self.old.knows.number ≡ (layout board.now).seats }
         requires room { self.old.knows.split < (layout board.now).seats }
         requires seat { seat ≡ self.old.knows.split }
-        requires starts { IsStart (layout board.now) starts.now }
+        requires shares { HasShares (layout board.now) seat (layout board.now).seats shares.old }
         requires expect { 0 < self.old.knows.split → E.expect ≡ self.old.knows.expect }
         requires samples { IsTable (layout board.now) E.expect }
-        ensures { IfOk result (λ s. (self.new.table ≡ self.old.table)
-            × (self.new.knows ≡ split_off E.expect self.old.knows)
-            × (s.table ≡ self.old.table)
-            × (s.knows ≡ loop_view (layout board.now) E.expect self.old.knows.split)) }
+        ensures driver { (self.new.table ≡ self.old.table)
+            × (self.new.knows ≡ split_off E.expect self.old.knows) }
+        ensures loops { (result.table ≡ self.old.table)
+            × (result.knows ≡ loop_view (layout board.now) E.expect self.old.knows.split) }
+        ensures rest { HasShares (layout board.now) (seat + 1) (layout board.now).seats
+            shares.new }
     {
-        let owners = &starts.owners;
-        let nodes = own(
-            alloc,
-            owners.nodes.as_slice(),
-            seat,
-            starts.nodes.as_slice(),
-        )?;
-        let writes = own(
-            alloc,
-            owners.writes.as_slice(),
-            seat,
-            starts.writes.as_slice(),
-        )?;
-        let reads = own(
-            alloc,
-            owners.reads.as_slice(),
-            seat,
-            starts.reads.as_slice(),
-        )?;
-        let blocks = own(
-            alloc,
-            owners.blocks.as_slice(),
-            seat,
-            starts.blocks.as_slice(),
-        )?;
+        let nodes = take(alloc, &mut shares.nodes, seat);
+        let writes = take(alloc, &mut shares.writes, seat);
+        let reads = take(alloc, &mut shares.reads, seat);
+        let blocks = take(alloc, &mut shares.blocks, seat);
         let token = split::<Brand>(board, &mut self.token);
-        Ok(LoopSeat {
+        LoopSeat {
             token,
             nodes,
             writes,
             reads,
             blocks,
             woke: 0,
-        })
+        }
     }
 }
 
@@ -135,11 +123,11 @@ impl DriverSeat {
         &mut self,
         alloc: Global,
         board: &Board,
-        starts: &Starts,
+        shares: &mut Shares,
     ) -> Result<Items<LoopSeat>, Memory>
         requires table { IsOn board.now self.old.table }
         requires knows { self.old.knows ≡ first_view (layout board.now) }
-        requires starts { IsStart (layout board.now) starts.now }
+        requires shares { HasShares (layout board.now) 0 (layout board.now).seats shares.old }
         requires samples { IsTable (layout board.now) E.expect }
         ensures driver { IfOk result (λ _. self.new
             ≡ record {
@@ -154,8 +142,9 @@ impl DriverSeat {
             }) }
     {
         let mut loops = Items::new(alloc);
+        loops.reserve(board.board_shape.seats as usize)?;
         for k in 0..board.board_shape.seats {
-            loops.push(self.split_off::<E>(alloc, board, starts, k)?)?;
+            loops.push(self.split_off::<E>(alloc, board, shares, k))?;
         }
         Ok(loops)
     }
@@ -187,14 +176,20 @@ fn event_count(shape: &Shape) -> usize
 }
 
 impl Board {
-    // The board of a shape with its seats, with the driver's seat before any split.
+    // The board of a shape with its seats, with the driver's seat before any split, which begins
+    // with these ends of links.
     fn lay_out(
         alloc: Global,
         board_shape: BoardShape,
+        indexes: &[usize; 64],
         pools: &[PoolShape],
-        starts: &Starts,
+        owners: &OwnerRows,
+        reads: Vec<ReadView>,
     ) -> Result<(Board, DriverSeat), Memory>
-        requires starts { IsStart (layout_of board_shape) starts.now }
+        requires indexes { AreIndexes board_shape.shape indexes.now }
+        requires owners { AreOwners (layout_of board_shape) owners.now }
+        requires reads { let p = layout_of board_shape in
+            reads.items ≡ own p.seats (owners_of p).reads (first_view p).reads }
         requires pools { pools.now ≡ pools_of board_shape.shape }
         requires pooled { IsPooledShape board_shape.shape }
         requires seats { HasSeats board_shape }
@@ -204,14 +199,8 @@ impl Board {
     {
         let spare = Items::new(alloc).into_room(event_count(&board_shape.shape))?;
         let words = start_words(alloc, &board_shape.shape, pools)?;
-        let rows = rows_of(alloc, &board_shape.shape, pools, words.len())?;
-        let slot_rows = slots_in(alloc, &board_shape, &starts.owners, rows.pools.as_slice())?;
-        let reads = own(
-            alloc,
-            starts.owners.reads.as_slice(),
-            board_shape.seats,
-            starts.reads.as_slice(),
-        )?;
+        let rows = rows_of(alloc, &board_shape.shape, pools, indexes, words.len())?;
+        let slot_rows = slots_in(alloc, &board_shape, owners, rows.pools.as_slice())?;
         let (table, token): (BoardTable, BoardToken) = Table::of_words(
             alloc,
             words.as_slice(),
@@ -304,9 +293,18 @@ impl Board {
             }) }
     {
         let board_shape = board_shape_of(alloc, shape, seat_of, seats)?;
-        let starts = starts_of(alloc, &board_shape, pools)?;
-        let (board, mut driver) = Board::lay_out(alloc, board_shape, pools, &starts)?;
-        let loops = driver.split_all::<E>(alloc, &board, &starts)?;
+        let indexes = indexes_of(&board_shape.shape);
+        let starts = starts_of(alloc, &board_shape, &indexes, pools)?;
+        let (reads, mut shares) = shares_of(alloc, &board_shape, &starts)?;
+        let (board, mut driver) = Board::lay_out(
+            alloc,
+            board_shape,
+            &indexes,
+            pools,
+            &starts.owners,
+            reads,
+        )?;
+        let loops = driver.split_all::<E>(alloc, &board, &mut shares)?;
         Ok((board, driver, loops))
     }
 }

@@ -1,12 +1,14 @@
 //! What the steps read of a shape, in rows by index.
-ghost use Rattle.std.specs.Prelude.{◌≡◌, ℕ, ◌+◌, ◌^◌, ◌<◌, ◌≤◌, ◌==◌, map, length, slice_index, IfOk};
+ghost use Rattle.std.specs.Prelude.{◌≡◌, ℕ, ◌+◌, ◌^◌, ◌<◌, ◌≤◌, map, length, IfOk};
 ghost use Rattle.std.specs.List.{position, position_or_len};
 ghost use Rattle.board_rule.specs.Layout.{index_in, required_row, target_rows};
 ghost use Rattle.pw_graph.specs.Layout.{area_count, areas_of, event_place, event_count, word_count};
 ghost use Rattle.pw_graph.specs.Pools.{IsPooledShape, is_same_port, pools_of};
 ghost use Rattle.board_rule.specs.buffers.EndViews.{pool_in};
+ghost use Rattle.board_rule.specs.working.NodeIndexes.{AreIndexes};
 ghost use Rattle.board_rule.specs.working.Rows.{IsLinkRow, HasLinkRows, IsPoolRow, HasPoolRows, HasRows, HasIndexes, base_of};
 
+use crate::node_indexes::index_by;
 use pw_graph::{PoolShape, PortId, Shape, ShapeLink, is_same_port};
 use pw_lists::Memory;
 use std::alloc::{AllocError, Global};
@@ -54,39 +56,19 @@ pub struct Rows {
     pub(crate) pools: Vec<PoolRow>,
 }
 
-// The index of a node, if the shape has it.
-fn find_index(shape: &Shape, node: u32) -> Option<usize>
-    ensures { result ≡ position (λ n. n.node == node) shape.now.nodes }
-{
-    shape.nodes.as_slice().iter().position(|n| n.node == node)
-}
-
-/// The index of a node of a shape, or the number of its nodes. Cost: a look at each node.
-#[tactic(auto, using(crate::proofs::activation::RowLemmas::place_or_end))]
-pub fn index_in(shape: &Shape, node: u32) -> usize
-    ensures { result ≡ index_in shape.now node }
-{
-    find_index(shape, node).unwrap_or(shape.nodes.len())
-}
-
-// The indexes of the numbers below 64.
-fn indexes_of(shape: &Shape) -> [usize; 64]
-    ensures { (n : ℕ) → n < 64 → slice_index result n ≡ index_in shape.now n }
-{
-    let mut indexes = [0usize; 64];
-    for n in 0..64 {
-        indexes[n as usize] = index_in(shape, n);
-    }
-    indexes
-}
-
 // The indexes of nodes.
-fn indexes(alloc: Global, shape: &Shape, nodes: &[u32]) -> Result<Vec<usize>, AllocError>
+fn indexes_in(
+    alloc: Global,
+    shape: &Shape,
+    indexes: &[usize; 64],
+    nodes: &[u32],
+) -> Result<Vec<usize>, AllocError>
+    requires { AreIndexes shape.now indexes.now }
     ensures { IfOk result (λ v. v.items ≡ map (index_in shape.now) nodes.now) }
 {
     let mut found = Vec::with_capacity(alloc, nodes.len())?;
     for n in nodes {
-        found.push(index_in(shape, *n))?;
+        found.push(index_by(shape, indexes, *n))?;
     }
     Ok(found)
 }
@@ -103,12 +85,17 @@ fn required_of(alloc: Global, shape: &Shape) -> Result<Vec<u64>, AllocError>
 }
 
 // The targets of each node, by indexes.
-fn targets_of(alloc: Global, shape: &Shape) -> Result<Vec<Vec<usize>>, AllocError>
+fn targets_of(
+    alloc: Global,
+    shape: &Shape,
+    indexes: &[usize; 64],
+) -> Result<Vec<Vec<usize>>, AllocError>
+    requires { AreIndexes shape.now indexes.now }
     ensures { IfOk result (λ v. map (λ row. row.items) v.items ≡ target_rows shape.now) }
 {
     let mut rows = Vec::with_capacity(alloc, shape.nodes.len())?;
     for n in shape.nodes.as_slice() {
-        rows.push(indexes(alloc, shape, n.targets.as_slice())?)?;
+        rows.push(indexes_in(alloc, shape, indexes, n.targets.as_slice())?)?;
     }
     Ok(rows)
 }
@@ -164,9 +151,11 @@ fn link_row(
     shape: &Shape,
     pools: &[PoolShape],
     rows: &[PoolRow],
+    indexes: &[usize; 64],
     link: ShapeLink,
     area: usize,
 ) -> LinkRow
+    requires indexes { AreIndexes shape.now indexes.now }
     requires pools { pools.now ≡ pools_of shape.now }
     requires rows { HasPoolRows shape.now rows.now }
     requires small { (q : ℕ) → q < length (pools_of shape.now)
@@ -179,8 +168,8 @@ fn link_row(
     let pool = pool_of(pools, link.from);
     let row = row_at(shape, rows, pool);
     LinkRow {
-        writer: index_in(shape, link.from.node),
-        reader: index_in(shape, link.to.node),
+        writer: index_by(shape, indexes, link.from.node),
+        reader: index_by(shape, indexes, link.to.node),
         pool,
         area,
         delayed: link.delayed,
@@ -203,7 +192,9 @@ fn links_of(
     shape: &Shape,
     pools: &[PoolShape],
     pool_rows: &[PoolRow],
+    indexes: &[usize; 64],
 ) -> Result<Vec<LinkRow>, AllocError>
+    requires indexes { AreIndexes shape.now indexes.now }
     requires pooled { IsPooledShape shape.now }
     requires pools { pools.now ≡ pools_of shape.now }
     requires rows { HasPoolRows shape.now pool_rows.now }
@@ -213,18 +204,25 @@ fn links_of(
     let mut rows = Vec::with_capacity(alloc, shape.links.len())?;
     let mut area = 1 + 2 * shape.nodes.len();
     for link in shape.links.as_slice() {
-        rows.push(link_row(shape, pools, pool_rows, *link, area))?;
+        rows.push(link_row(shape, pools, pool_rows, indexes, *link, area))?;
         area += areas_at(*link);
     }
     Ok(rows)
 }
 
 // The row of a pool whose first block and whose words are at indexes.
-fn pool_row(shape: &Shape, pool: &PoolShape, first: usize, base: usize) -> PoolRow
+fn pool_row(
+    shape: &Shape,
+    indexes: &[usize; 64],
+    pool: &PoolShape,
+    first: usize,
+    base: usize,
+) -> PoolRow
+    requires { AreIndexes shape.now indexes.now }
     ensures { IsPoolRow shape.now pool.now first base result }
 {
     PoolRow {
-        filler: index_in(shape, pool.port.node),
+        filler: index_by(shape, indexes, pool.port.node),
         node: pool.port.node,
         blocks: pool.blocks,
         words: pool.words as usize,
@@ -240,9 +238,11 @@ fn pools_rows(
     alloc: Global,
     shape: &Shape,
     pools: &[PoolShape],
+    indexes: &[usize; 64],
     base: usize,
     words: usize,
 ) -> Result<Vec<PoolRow>, AllocError>
+    requires indexes { AreIndexes shape.now indexes.now }
     requires pools { pools.now ≡ pools_of shape.now }
     requires base { base ≡ event_place shape.now (event_count shape.now) }
     requires room { word_count shape.now ≤ words }
@@ -252,21 +252,23 @@ fn pools_rows(
     let mut first = 0;
     let mut base = base;
     for pool in pools {
-        rows.push(pool_row(shape, pool, first, base))?;
+        rows.push(pool_row(shape, indexes, pool, first, base))?;
         first += pool.blocks as usize;
         base += pool.blocks as usize * (1 + pool.words as usize);
     }
     Ok(rows)
 }
 
-/// The rows of a shape with these pools whose board has `words` words. Cost: a look at each node
-/// for each target, each link and each number below 64, and at each pool for each link.
+/// The rows of a shape with this table and these pools whose board has `words` words. Cost: a look
+/// at each node, target, link and pool, and at each pool for each link.
 pub(crate) fn rows_of(
     alloc: Global,
     shape: &Shape,
     pools: &[PoolShape],
+    indexes: &[usize; 64],
     words: usize,
 ) -> Result<Rows, Memory>
+    requires indexes { AreIndexes shape.now indexes.now }
     requires pooled { IsPooledShape shape.now }
     requires pools { pools.now ≡ pools_of shape.now }
     requires placed { HasIndexes shape.now }
@@ -275,14 +277,14 @@ pub(crate) fn rows_of(
 {
     let areas = areas_of(shape.links.as_slice());
     let base = 1 + 2 * shape.nodes.len() + areas + events_of(shape);
-    let pool_rows = pools_rows(alloc, shape, pools, base, words)?;
-    let links = links_of(alloc, shape, pools, pool_rows.as_slice())?;
+    let pool_rows = pools_rows(alloc, shape, pools, indexes, base, words)?;
+    let links = links_of(alloc, shape, pools, pool_rows.as_slice(), indexes)?;
     Ok(Rows {
-        driver: index_in(shape, shape.driver),
+        driver: index_by(shape, indexes, shape.driver),
         areas,
-        indexes: indexes_of(shape),
+        indexes: *indexes,
         required: required_of(alloc, shape)?,
-        targets: targets_of(alloc, shape)?,
+        targets: targets_of(alloc, shape, indexes)?,
         links,
         pools: pool_rows,
     })

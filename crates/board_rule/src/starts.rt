@@ -1,9 +1,9 @@
 //! What the nodes, the links and the blocks of a board are at the start, of which each seat takes
 //! its own.
-ghost use Rattle.std.specs.Prelude.{◌≡◌, ◌++◌, IfOk, OnOk, length, map, replicate};
+ghost use Rattle.std.specs.Prelude.{◌≡◌, ◌++◌, IfOk, OnOk, map, replicate};
 ghost use Rattle.pw_graph.specs.Pools.{link_ids_from, pools_of};
 ghost use Rattle.board_rule.specs.Layout.{layout_of};
-ghost use Rattle.board_rule.specs.start.Owners.{own};
+ghost use Rattle.board_rule.specs.working.NodeIndexes.{AreIndexes};
 ghost use Rattle.board_rule.specs.working.Progress.{progress_of};
 ghost use Rattle.board_rule.specs.working.Slots.{IsStart};
 ghost use Rattle.board_rule.specs.View.{blocks_at_first, first_blocks, idle, unread, first_write};
@@ -111,42 +111,25 @@ fn idle(alloc: Global, nodes: usize, cycle: u64) -> Result<Vec<NodeProgress>, Al
     Vec::from_elem(alloc, node, nodes)
 }
 
-/// What all seats of a board begin with, by the pools of its shape. Cost: a look at each node for
-/// each node, link and pool.
+/// What all seats of a board begin with, by the table and the pools of its shape. Cost: a look at
+/// each node, link, pool and block.
 pub(crate) fn starts_of(
     alloc: Global,
     board_shape: &BoardShape,
+    indexes: &[usize; 64],
     pools: &[PoolShape],
 ) -> Result<Starts, Memory>
-    requires { pools.now ≡ pools_of board_shape.now.shape }
+    requires indexes { AreIndexes board_shape.now.shape indexes.now }
+    requires pools { pools.now ≡ pools_of board_shape.now.shape }
     ensures { IfOk result (λ starts. IsStart (layout_of board_shape.now) starts) }
 {
     let shape = &board_shape.shape;
     let first = u64::from(shape.first);
     Ok(Starts {
-        owners: owner_rows(alloc, board_shape, pools)?,
+        owners: owner_rows(alloc, board_shape, indexes, pools)?,
         nodes: idle(alloc, shape.nodes.len(), first)?,
         writes: first_writes(alloc, shape.links.as_slice(), first)?,
         reads: unread(alloc, shape.links.len(), first)?,
         blocks: first_blocks(alloc, shape, pools)?,
     })
-}
-
-/// Of entries with these owners, those of a seat. Cost: a look at each entry.
-pub(crate) fn own<T: Copy>(
-    alloc: Global,
-    owners: &[u32],
-    seat: u32,
-    all: &[T],
-) -> Result<Vec<T>, AllocError>
-    requires { length owners.now ≡ length all.now }
-    ensures { IfOk result (λ mine. mine.items ≡ own seat owners.now all.now) }
-{
-    let mut mine = Vec::new(alloc);
-    for at in 0..owners.len() {
-        if owners[at] == seat {
-            mine.push(all[at])?;
-        }
-    }
-    Ok(mine)
 }

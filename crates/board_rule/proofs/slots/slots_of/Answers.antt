@@ -1,25 +1,12 @@
-use Rattle.std.proofs.Common.{◌≡◌, ◌∙◌, ◌+◌, ◌<◌, ◌≤◌, inl, inr, ℕ, List, [], ◌∷◌, eqb, take, length, set, slice_index, sym, ap, arith, eq-eqb, ne_eqb}
+use Rattle.std.proofs.Common.{◌≡◌, ◌∙◌, ◌+◌, ◌<◌, ℕ, List, [], ◌∷◌, eqb, take, length, set, slice_index, ap, arith}
 use Rattle.std.proofs.Common.{length-append}
 use Rattle.std.proofs.lemmas.Grind.{get_or_default_zero}
-use Rattle.std.proofs.lemmas.Bool.Decides.{eqb_tells}
-use Rattle.std.proofs.lemmas.List.{length-take, length-set, get_or-set_same, get_or-set_other}
-use Rattle.std.proofs.lemmas.List.Sums.{count_by-le-length, count_by_more_yes, count_by_more_no}
+use Rattle.std.proofs.lemmas.List.{length-take, length-set}
+use Rattle.std.proofs.lemmas.List.Sums.{count_by-le-length}
 use Rattle.board_rule.specs.start.Owners.{own_before, slot_in}
 use Rattle.board_rule.proofs.activation.RowLemmas.{row_grown}
+use Rattle.board_rule.proofs.start.DealLemmas.{counted}
 use Rattle.board_rule.proofs.slots.slots_of.Goals as goal
-
--- the count of the next entry's owner is one more, and no other
-counted : (os counts : List ℕ) (n most j : ℕ) → n < length os → length counts ≡ most + 1 → slice_index os n ≤ most → j ≤ most
-    → ((k : ℕ) → k ≤ most → slice_index counts k ≡ own_before k os n)
-    → slice_index (set counts (slice_index os n) (slice_index counts (slice_index os n) + 1)) j ≡ own_before j os (n + 1)
-counted os counts n most j low width few inside are = let k = slice_index os n in elim (eqb_tells j k) [
-  | inl w ↦ ap (λ i. slice_index (set counts k (slice_index counts k + 1)) i) w.1
-      ∙ get_or-set_same counts k (slice_index counts k + 1) 0 (omega arith) ∙ ap (λ z. z + 1) (are k few)
-      ∙ sym (count_by_more_yes (λ o. eqb o k) os n 0 low (eq-eqb k k (λ i. k)))
-      ∙ ap (λ i. own_before i os (n + 1)) (sym w.1)
-  | inr w ↦ get_or-set_other counts k j (slice_index counts k + 1) 0 w.1 ∙ are j inside
-      ∙ sym (count_by_more_no (λ o. eqb o j) os n 0 low (ne_eqb k j (λ e. w.1 (sym e))))
-]
 
 pub overflow_add-index_mut : goal.overflow_add-index_mut
 overflow_add-index_mut c = let n : ℕ = c.loop-owner.owner-index in let os : List ℕ = c.args.owners.now in let k = slice_index os n in

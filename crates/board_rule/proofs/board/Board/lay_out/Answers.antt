@@ -14,7 +14,7 @@ use Rattle.board_rule.proofs.board.Board.lay_out.Goals as goal
 pub of_words-requires : goal.of_words-requires
 of_words-requires c = let board_shape = c.args.board_shape in let p = layout_of board_shape in let shape = board_shape.shape in
     let long = long_enough shape in let wide : nodes p + nodes p < word_count shape = omega arith in
-    subst (λ (w : List ℕ). Holds p (opening w [] (first_view p))) (sym (c.as_slice-4.ensures ∙ c.in_ok-words.ensures))
+    subst (λ (w : List ℕ). Holds p (opening w [] (first_view p))) (sym (c.as_slice-2.ensures ∙ c.in_ok-words.ensures))
     (opens p (start_words shape) [] (sound_layout board_shape c.requires.pooled.sound c.requires.seats) c.requires.pooled refl (count_is shape)
     (subst (λ k. nodes p + nodes p < k) (count_is shape) wide)
     (subst (λ k. event_place shape (event_count shape) ≤ k) (count_is shape) long) refl (late_start shape) (event_start shape)
@@ -34,7 +34,7 @@ invariant_of-result-2-clause-fits c = let a = c.words.inside.inner.small in let 
     let z = count_is c.args.board_shape.shape in omega arith
 
 pub invariant_of-result-2-clause-words : goal.invariant_of-result-2-clause-words
-invariant_of-result-2-clause-words c = c.in_ok-table.ensures.0 ∙ ap (λ (l : List ℕ). length l) (c.as_slice-4.ensures ∙ c.in_ok-words.ensures)
+invariant_of-result-2-clause-words c = c.in_ok-table.ensures.0 ∙ ap (λ (l : List ℕ). length l) (c.as_slice-2.ensures ∙ c.in_ok-words.ensures)
     ∙ sym (count_is c.args.board_shape.shape)
 
 pub invariant_of-result-2-clause-placed : goal.invariant_of-result-2-clause-placed

@@ -31,20 +31,21 @@ named p x k = ap (λ b. let w : View = record (first_view p) { split = suc k; ex
 
 pub loop-k-preserved : goal.loop-k-preserved
 loop-k-preserved g c = let x : Samples = g.E.Expect.expect in let i = c.loop-k.invariant in let b = c.args.board.now in
-    let p = layout_of b.board_shape in let e = c.in_ok-split_off.ensures in let w = c.in_ok-push.ensures.ok in
+    let p = layout_of b.board_shape in let e = c.split_off.ensures in let w = c.in_ok-push.ensures.ok in
     let t : TableId = b.table.shared.table_id in
     let table = ap (λ (z : Known). z.table) i.0 in let knows = ap (λ (z : Known). z.knows) i.0 in
     let one : c.loop-k.k + 1 ≡ suc c.loop-k.k = omega arith in
-    let new = c.split_off.new.self in let given = c.in_ok-split_off.field-0 in
-    let t₁ : new.table ≡ t = e.0 ∙ table in
-    let k₁ : new.knows ≡ driver_view p x (c.loop-k.k + 1) = e.1 ∙ ap (split_off x) knows ∙ named p x c.loop-k.k
+    let new = c.split_off.new.self in let given = c.split_off.result in
+    let t₁ : new.table ≡ t = e.driver.0 ∙ table in
+    let k₁ : new.knows ≡ driver_view p x (c.loop-k.k + 1) = e.driver.1 ∙ ap (split_off x) knows ∙ named p x c.loop-k.k
     ∙ ap (driver_view p x) (sym one) in
-    let t₂ : given.table ≡ t = e.2 ∙ table in
-    let k₂ : given.knows ≡ loop_view p x c.loop-k.k = e.3 ∙ ap (λ (v : View). loop_view p x v.split) knows in (
+    let t₂ : given.table ≡ t = e.loops.0 ∙ table in
+    let k₂ : given.knows ≡ loop_view p x c.loop-k.k = e.loops.1 ∙ ap (λ (v : View). loop_view p x v.split) knows in (
       (λ j. record { table = t₁ j; knows = k₁ j }),
       ap (λ (l : List Known). length l) w ∙ length-append c.loop-k.loops (given ∷ [])
           ∙ (let z : length c.loop-k.loops + 1 ≡ c.loop-k.k + 1 = ap (λ n. n + 1) i.1 in z),
+      e.rest,
       λ n h. ap (λ (l : List Known). slice_get l n) w
-          ∙ grown c.loop-k.loops given c.loop-k.k (λ n. record { table = t; knows = loop_view p x n }) i.1 i.2
+          ∙ grown c.loop-k.loops given c.loop-k.k (λ n. record { table = t; knows = loop_view p x n }) i.1 i.3
           (λ j. record { table = t₂ j; knows = k₂ j }) n h,
     )

@@ -1,7 +1,7 @@
 use Rattle.std.proofs.Common.{arith, ◌≡◌, ◌∙◌, ℕ, ◌<◌, ◌+◌, length-set, set, slice_index, subst, sym}
 use Rattle.board_rule.specs.Layout.{index_in}
 use Rattle.board_rule.proofs.activation.RowLemmas.{filled}
-use Rattle.board_rule.proofs.rows.indexes_of.Goals as goal
+use Rattle.board_rule.proofs.node_indexes.indexes_of.Goals as goal
 
 pub loop-n-preserved : goal.loop-n-preserved
 loop-n-preserved c = let i = c.loop-n.invariant in let n : ℕ = c.loop-n.n in let e = c.index_in.ensures in let long = i.0 in (
