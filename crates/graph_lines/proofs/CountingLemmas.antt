@@ -1,21 +1,15 @@
 -- Laws of counts and targets over plain lists.
-use Rattle.std.proofs.Common.{◌≡◌, inl, inr, ℕ, zero, suc, ◌+◌, ◌<◌, ◌==◌, ◌&&◌, ◌||◌, List, [], ◌∷◌, ◌++◌, length, get_or}
-use Rattle.std.proofs.Common.{take, map, Bool, true, false, not, cond, refl, sym, ap, ◌∙◌, arith, append-nil, add-one, zero-add}
+use Rattle.std.proofs.Common.{◌≡◌, ℕ, zero, suc, ◌+◌, ◌<◌, ◌==◌, ◌&&◌, ◌||◌, List, [], ◌∷◌, ◌++◌, length, get_or}
+use Rattle.std.proofs.Common.{map, Bool, true, false, not, cond, refl, sym, ap, ◌∙◌, arith, append-nil, add-one, zero-add}
 use Rattle.std.specs.Prelude.{filter, Contains}
 use Rattle.std.specs.List.{list_any, range_with_len}
 use Rattle.std.specs.List.Sorted.{IsStrictlyIncreasing}
-use Rattle.std.proofs.Math.ListN.{set}
-use Rattle.std.proofs.lemmas.Bool.Decides.{eqb_tells}
-use Rattle.std.proofs.lemmas.List.{get_or-set_same, get_or-set_other}
 use Rattle.std.proofs.lemmas.List.Elements.{filter-append, filter_passes, All-contains}
-use Rattle.std.proofs.lemmas.List.Folds.{list_any_more}
 use Rattle.std.proofs.lemmas.List.FromFn.{length-range_with_len, get_or-range_with_len}
 use Rattle.std.proofs.lemmas.List.Kept.{IsStrictlyIncreasing-filter}
 use Rattle.pw_graph.specs.declared.shape.Shape.{Shape}
-use Rattle.pw_graph.specs.declared.shape.ShapeLink.{ShapeLink}
 use Rattle.pw_graph.specs.declared.shape.ShapeNode.{ShapeNode}
-use Rattle.pw_graph.specs.Dependencies.{nodes_of, joins, waits}
-use Rattle.pw_graph.specs.LinkOrder.{IsWithinNodes}
+use Rattle.pw_graph.specs.Dependencies.{nodes_of, waits}
 use Rattle.pw_graph.specs.SoundShape.{IsCounted}
 use Rattle.graph_lines.specs.Searching.{is_in, numbers_in}
 
@@ -54,53 +48,6 @@ kept_at p (y ∷ ys) x (suc k) l same e = one_later (p y) y (filter p ys) x (kep
 pub numbers_contain : (here : List Bool) (n k : ℕ) → k < n → is_in here k ≡ true → Contains (numbers_in here n) k
 numbers_contain here n k l e = kept_at (is_in here) (range_with_len 0 n) k k
     (omega (arith, l, length-range_with_len 0 n)) (get_or-range_with_len 0 n k k l ∙ zero-add k) e
-
--- one link more at a row
-or_false : (b : Bool) → b ≡ (b || false)
-or_false true = refl
-or_false false = refl
-
-or_true : (b : Bool) → true ≡ (b || true)
-or_true true = refl
-or_true false = refl
-
-row : (here : List Bool) (k m : ℕ) (d t : Bool) → k < length here
-    → is_in (cond (d && t) (set here k true) here) m ≡ (is_in here m || (d && ((k == m) && t)))
-row here k m false t l = or_false (is_in here m)
-row here k m true false l = or_false (is_in here m) ∙ ap (λ (b : Bool). is_in here m || b) (and_false (k == m)) where
-  and_false : (b : Bool) → false ≡ (b && false)
-  and_false true = refl
-  and_false false = refl
-row here k m true true l = elim (eqb_tells k m) [
-  | inl w ↦ ap (is_in (set here k true)) (sym w.1) ∙ (get_or-set_same here k true false l
-      ∙ (or_true (is_in here m) ∙ ap (λ (b : Bool). is_in here m || (b && true)) (sym w.0)))
-  | inr w ↦ get_or-set_other here k m true false (λ e. w.1 (sym e)) ∙ (or_false (is_in here m) ∙ ap (λ (b : Bool). is_in here m || (b && true)) (sym w.0))
-]
-
-and_swap : (a b : Bool) → (a && b) ≡ (b && a)
-and_swap true true = refl
-and_swap true false = refl
-and_swap false true = refl
-and_swap false false = refl
-
-module _ (links : List ShapeLink) (here : List Bool) (node i : ℕ) (d : ShapeLink) (lt : i < length links) (long : length here ≡ 64)
-    (within : IsWithinNodes (get_or links i d)) where
-  pub source_more : ((m : ℕ) → is_in here m ≡ list_any (joins m node) (take i links)) → (test : Bool) (new : List Bool)
-      → test ≡ (not (get_or links i d).delayed && ((get_or links i d).to.node == node))
-      → new ≡ cond test (set here (get_or links i d).from.node true) here → (m : ℕ) → is_in new m
-      ≡ list_any (joins m node) (take (i + 1) links)
-  source_more h test new e f m = let l = get_or links i d in
-      ap (λ (xs : List Bool). is_in xs m) (f ∙ ap (λ (b : Bool). cond b (set here l.from.node true) here) e) ∙ (row here l.from.node m (not l.delayed) (l.to.node == node) (let w = within.0 in omega (arith, w, long))
-      ∙ (ap (λ (b : Bool). b || joins m node l) (h m) ∙ sym (list_any_more (joins m node) links i d lt)))
-
-  pub follower_more : ((n : ℕ) → is_in here n ≡ list_any (joins node n) (take i links)) → (test : Bool) (new : List Bool)
-      → test ≡ (not (get_or links i d).delayed && ((get_or links i d).from.node == node))
-      → new ≡ cond test (set here (get_or links i d).to.node true) here → (n : ℕ) → is_in new n
-      ≡ list_any (joins node n) (take (i + 1) links)
-  follower_more h test new e f n = let l = get_or links i d in
-      ap (λ (xs : List Bool). is_in xs n) (f ∙ ap (λ (b : Bool). cond b (set here l.to.node true) here) e) ∙ (row here l.to.node n (not l.delayed) (l.from.node == node) (let w = within.1 in omega (arith, w, long))
-      ∙ (ap (λ (b : Bool). is_in here n || (not l.delayed && b)) (and_swap (l.to.node == n) (l.from.node == node))
-      ∙ (ap (λ (b : Bool). b || joins node n l) (h n) ∙ sym (list_any_more (joins node n) links i d lt))))
 
 -- counts read the numbers of the nodes only
 pub counted_again : (shape : Shape) (nodes : List ShapeNode) → map (λ n. n.node) nodes ≡ nodes_of shape → (n : ShapeNode)

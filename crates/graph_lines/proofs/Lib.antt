@@ -1,5 +1,6 @@
 pub mod ActivityLemmas
 pub mod DrivingLemmas
+pub mod RowLemmas
 pub mod CountingLemmas
 pub mod SumLemmas
 pub mod LinkingLemmas

@@ -1,9 +1,11 @@
 -- The search for the nodes that are joined: what a look at one link and a pass over all of them do.
 -- Source: this project's own.
 use Rattle.std.specs.Prelude.{◌≡◌, ◌⊎◌, ℕ, ◌<◌, ◌≤◌, Bool, true, false, not, List, length, slice_index_or, slice_set}
-use Rattle.std.specs.Prelude.{Option, Some, None, count_by, All, filter}
-use Rattle.std.specs.List.{range_with_len}
+use Rattle.std.specs.Prelude.{◌+◌, ◌*◌, ◌&&◌, nat_lt, Option, Some, None, count_by, All, filter}
+use Rattle.std.specs.List.{list_any, range_with_len}
 use Rattle.pw_graph.specs.declared.kind.Kind.{Kind}
+use Rattle.pw_graph.specs.declared.shape.ShapeLink.{ShapeLink}
+use Rattle.pw_graph.specs.Dependencies.{joins}
 use Rattle.graph_lines.specs.declared.wire.Wire.{Wire}
 use Rattle.graph_lines.specs.declared.standing.Standing.{Standing}
 use Rattle.graph_lines.specs.declared.shaping.driving.Candidate.{Candidate}
@@ -58,3 +60,11 @@ IsBest kinds nodes count (Some b) = (candidacy kinds nodes b.node ≡ Some b.pri
 -- the numbers below a count that are in, ascending
 abbrev pub numbers_in : List Bool → ℕ → List ℕ
 numbers_in here count = filter (is_in here) (range_with_len 0 count)
+
+-- whether n is in the row of m, where each row has 64 numbers
+abbrev pub is_linked : List Bool → ℕ → ℕ → Bool
+is_linked rows m n = nat_lt n 64 && is_in rows (m * 64 + n)
+
+-- the row of each number has just those to which a link goes from it that is not delayed
+abbrev pub HasRows : List ShapeLink → List Bool → Type 0
+HasRows links rows = (m n : ℕ) → is_linked rows m n ≡ list_any (joins m n) links

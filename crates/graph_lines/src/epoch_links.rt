@@ -61,6 +61,7 @@ impl Graph {
             (filter (is_used_in self.now.nodes here.now) self.now.wires)) }
     {
         let mut links = Items::new(self.alloc);
+        links.reserve(self.wires.len())?;
         for wire in self.wires.as_slice() {
             if is_used_in(self.nodes.as_slice(), here, wire) {
                 links.push(self.link_in(wire))?;

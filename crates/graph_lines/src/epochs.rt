@@ -55,8 +55,8 @@ impl Graph {
     /// required counts and targets, the live links between them with the channels of their outputs,
     /// the forms of all ports of active nodes, and all nodes that begin anew. The graph stays.
     ///
-    /// Cost: 64 looks at each link for the active nodes, and two more at each link and node for the
-    /// counts of each active node.
+    /// Cost: 64 looks at each link for the active nodes, one more for who has a link to whom, and
+    /// for the counts of each active node two looks at each active node.
     ///
     /// Public source: PipeWire's documentation, "Graph Scheduling".
     pub fn epoch_of(&self, cycles: u32) -> Result<Epoch, Memory>

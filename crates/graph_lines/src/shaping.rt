@@ -3,9 +3,10 @@
 mod activity;
 mod counting;
 mod driving;
+mod linked;
 
 pub(crate) use activity::is_live;
 pub use activity::{active_nodes, live_wires};
-pub(crate) use counting::is_in;
 pub use counting::{bare_nodes, counted};
 pub use driving::{Candidate, driver_of};
+pub(crate) use linked::is_in;

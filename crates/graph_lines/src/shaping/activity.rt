@@ -32,6 +32,7 @@ pub fn live_wires(alloc: Global, nodes: &[Standing], wires: &[Wire]) -> Result<I
     ensures { IfOk result (λ live. live ≡ live_wires nodes.now wires.now) }
 {
     let mut live = Items::new(alloc);
+    live.reserve(wires.len())?;
     for wire in wires {
         if is_live(nodes, wire) {
             live.push(*wire)?;
