@@ -84,10 +84,10 @@ fn whole_plan(
 /// the script with their offers, and `waves` one wave for each of its sources.
 ///
 /// Cost: a `link` line copies two offers and looks at each link for a loop. An epoch looks at most
-/// 64 times at each link for the nodes that are active, at each of these twice at each link and
-/// twice at each active node for its count and its targets, and at each node of the script at each
-/// active node and each form for what is said of it then. Memory: what the plan holds, the ports,
-/// and one epoch more.
+/// 64 times at each link for the nodes that are active and once more for who has a link to whom, at
+/// each of these nodes twice at each active node for its count and its targets, and at each node of
+/// the script at each active node and each form for what is said of it then. Memory: what the plan
+/// holds, the ports, and one epoch more.
 ///
 /// Public source: PipeWire's documentation, "Graph Scheduling"; the script is this project's.
 pub fn plan(
