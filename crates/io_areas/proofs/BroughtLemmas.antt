@@ -1,5 +1,5 @@
 -- What a link brings its reader: the samples of the block that it holds, which are 16 bits each and a quantum long.
-use Rattle.std.proofs.Common.{◌≡◌, ℕ, ℤ, ◌+◌, ◌-◌, ◌<◌, Bool, true, false, cond, ltb, List, [], length, get_or, refl, sym, ap, ◌∙◌}
+use Rattle.std.proofs.Common.{◌≡◌, ℕ, ℤ, ◌+◌, ◌-◌, ◌*◌, ◌<◌, Bool, true, false, cond, ltb, List, [], length, get_or, refl, sym, ap, ◌∙◌}
 use Rattle.std.proofs.Common.{subst, arith, ap₂}
 use Rattle.std.specs.Prelude.{pos, ◌∷◌, All, replicate}
 use borrow.Author.Tests.{ltb-true}
@@ -11,12 +11,14 @@ use Rattle.pw_lists.specs.Samples.{clamped}
 use Rattle.pw_graph.specs.Pools.{pools_of}
 use Rattle.board_rule.specs.declared.view.View.{View}
 use Rattle.board_rule.specs.Layout.{BoardLayout, first}
-use Rattle.board_rule.specs.buffers.SampleWords.{IsTable, samples_in}
+use Rattle.board_rule.specs.buffers.SampleWords.{IsTable, samples_in, packed}
 use Rattle.board_rule.specs.buffers.EndViews.{no_pool, pool_at, pool_of}
-use Rattle.board_rule.specs.buffers.ReaderSteps.{read_cycle, samples_read}
+use Rattle.board_rule.specs.buffers.ReaderSteps.{read_cycle, samples_read, ReadsBlock}
 use Rattle.io_areas.specs.Reading.{IsHolding, IsClamped, stamp_brought, brought}
 use Rattle.io_areas.specs.Quanta.{quantum_of}
-use Rattle.io_areas.proofs.SampleWordsLemmas.{IsShort, IsReadTo}
+use Rattle.io_areas.proofs.SampleWordsLemmas.{IsShort, IsReadTo, spread_more}
+use Rattle.io_areas.proofs.ReadingLemmas.{loaded_to, samples_same}
+use Rattle.io_areas.specs.working.Unpacking.{spread}
 
 -- the list where the test holds, else zeros: given by its elements
 told_by : (b : Bool) (xs ys : List ℤ) (n : ℕ) → (b ≡ true → length xs ≡ n) → length ys ≡ n
@@ -64,3 +66,13 @@ module _ (is_driver : Bool) (p : BoardLayout) (v : View) (l : ℕ) (table : IsTa
           let at : first p + (n - 1 - first p) ≡ n - 1 = omega arith in
           ap (λ (k : ℕ). length (samples_in p v.expect k q)) (sym at)
           ∙ table.long (n - 1 - first p) q (pool_at p q) (omega arith) (slice_get-get_or (pools_of p.shape) q no_pool inside)
+
+-- one more word is written where it belongs
+pub last_spread : (b : Bool) (p : BoardLayout) (v : View) (l id : ℕ) (h : ReadsBlock b p v l id) {n word : ℕ} {w : View} {zs : List ℤ} (ys : List ℤ) (k : ℕ)
+    → IsTable p v.expect → word ≡ packed (samples_read b p w l) n → w ≡ loaded_to v l k → n ≡ k → zs ≡ spread ys (4 * n) word
+    → IsReadTo (samples_read b p v l) (4 * k) ys → IsReadTo (samples_read b p v l) (4 * (k + 1)) zs
+last_spread b p v l id h {n} {word} {w} {zs} ys k table e i same is so_far = let xs = samples_read b p v l in
+    let here : word ≡ packed xs k = e ∙ ap (λ (x : View). packed (samples_read b p x l) n) i
+    ∙ ap (λ (ss : List ℤ). packed ss n) (samples_same b p v l id h k) ∙ ap (λ (m : ℕ). packed xs m) same in
+    subst (IsReadTo xs (4 * (k + 1))) (sym (is ∙ ap (λ (m : ℕ). spread ys (4 * m) word) same))
+    (spread_more xs (all_short b p v l table) ys k word here so_far)

@@ -1,8 +1,9 @@
 -- The words that a reader has loaded of its block, one after another.
-use Rattle.std.proofs.Common.{◌≡◌, ℕ, zero, suc, ◌+◌, ◌<◌, Bool, true, false, List, length, set, refl, ap, ◌∙◌, sym, arith, set-set}
+use Rattle.std.proofs.Common.{◌≡◌, ℕ, zero, suc, ◌+◌, ◌<◌, Bool, true, false, List, length, set, refl, ap, ◌∙◌, sym, subst, arith, set-set}
 use Rattle.std.proofs.Common.{length-set, get_or-set_same}
 use Rattle.board_rule.specs.declared.view.View.{View}
 use Rattle.board_rule.specs.Layout.{BoardLayout}
+use Rattle.board_rule.specs.buffers.SampleWords.{IsTable}
 use Rattle.board_rule.specs.buffers.EndViews.{reader_of}
 use Rattle.board_rule.specs.activation.SeatNodes.{HasNode}
 use Rattle.board_rule.specs.activation.WorkSteps.{IsRunning}
@@ -61,3 +62,11 @@ module _ (b : Bool) (p : BoardLayout) (v : View) (l id : ℕ) (h : ReadsBlock b 
   pub expect_same : (k : ℕ) → (loaded_to v l k).expect ≡ v.expect
   expect_same zero = refl
   expect_same (suc k) = refl
+
+  -- the same after one more load, whose place is the number of words loaded
+  pub last_knows : {n : ℕ} {w x : View} (k : ℕ) → x ≡ sample_loaded b p w l n → w ≡ loaded_to v l k → n ≡ k → x ≡ loaded_to v l (k + 1)
+  last_knows {n} {w} {x} k e i same = e ∙ ap (λ (y : View). sample_loaded b p y l n) i
+      ∙ ap (λ (m : ℕ). sample_loaded b p (loaded_to v l k) l m) same ∙ loads_more k
+
+  pub last_table : {w : View} (k : ℕ) → IsTable p w.expect → w ≡ loaded_to v l k → IsTable p v.expect
+  last_table {w} k t i = subst (IsTable p) (expect_same k) (subst (λ (y : View). IsTable p y.expect) i t)

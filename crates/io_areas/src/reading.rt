@@ -8,7 +8,7 @@ ghost use Rattle.board_rule.specs.buffers.ReaderSteps.{LoadsAsReader, IsZeroAtFi
 ghost use Rattle.io_areas.specs.Quanta.{quantum_of};
 ghost use Rattle.io_areas.specs.Reading.{taken, IsHolding, all_loaded, brought, IsClamped, GivesBack, given_back};
 
-use crate::sample_words::spread;
+use crate::sample_words::{spread, spread_rest};
 use board_rule::{Board, BoardSeat};
 use pw_graph::io_id_of;
 
@@ -54,7 +54,8 @@ fn first_of(board: &Board, link: u32, id: u32) -> usize
 
 /// Reads the block that is taken: `to`, which is one quantum of the link's pool long, becomes its
 /// samples, frames interleaved.
-/// One load a word of four samples, in their order.
+/// One load a word of four samples, in their order: first the whole words, then the one that is
+/// left.
 #[inline]
 pub fn read<S: BoardSeat>(board: &Board, seat: &mut S, link: u32, to: &mut [i16])
     requires table { IsOn board.now (S.table seat.old) }
@@ -68,9 +69,15 @@ pub fn read<S: BoardSeat>(board: &Board, seat: &mut S, link: u32, to: &mut [i16]
 {
     let id = seat.loaded(board, link);
     let first = first_of(board, link, id);
-    for place in 0..words_of(board, link) {
+    let words = words_of(board, link);
+    let whole = (to.len() / 4) as u32;
+    for place in 0..whole {
         let word = seat.load_sample_at(board, link, id, place, first);
         spread(word, place, to);
+    }
+    if whole < words {
+        let last = seat.load_sample_at(board, link, id, whole, first);
+        spread_rest(last, whole, to);
     }
 }
 

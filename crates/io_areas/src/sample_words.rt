@@ -95,11 +95,11 @@ fn put(to: &mut [i16], at: usize, sample: i16)
     }
 }
 
-// Writes the four samples of a word from `at` on, as far as there are indexes.
-fn put_rest(to: &mut [i16], at: usize, word: u64)
-    requires { at < 2 ^ 35 }
-    ensures { to.new ≡ spread to.old at word }
+/// Writes the samples of the last word of a list to their indexes, as far as these are there.
+pub(crate) fn spread_rest(word: u64, place: u32, to: &mut [i16])
+    ensures { to.new ≡ spread to.old (4 * place) word }
 {
+    let at = 4 * place as usize;
     let [first, second, third, fourth] = unpack(word);
     put(to, at, first);
     put(to, at + 1, second);
@@ -107,19 +107,16 @@ fn put_rest(to: &mut [i16], at: usize, word: u64)
     put(to, at + 3, fourth);
 }
 
-/// Writes the four samples of a word of a list to their indexes, as far as these are there.
+/// Writes the four samples of a word of a list to their indexes.
 #[inline]
 pub(crate) fn spread(word: u64, place: u32, to: &mut [i16])
+    requires whole { 4 * place + 3 < length to.old }
     ensures { to.new ≡ spread to.old (4 * place) word }
 {
     let at = 4 * place as usize;
-    if at + 3 < to.len() {
-        let [first, second, third, fourth] = unpack(word);
-        to[at] = first;
-        to[at + 1] = second;
-        to[at + 2] = third;
-        to[at + 3] = fourth;
-    } else {
-        put_rest(to, at, word);
-    }
+    let [first, second, third, fourth] = unpack(word);
+    to[at] = first;
+    to[at + 1] = second;
+    to[at + 2] = third;
+    to[at + 3] = fourth;
 }
