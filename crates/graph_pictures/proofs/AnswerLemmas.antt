@@ -39,6 +39,21 @@ module _ {T U : Type 0} (First : Expected Status T → Type 0) (Makes : T → Re
   made_goes Has x seen r h same made cause = binds_goes statuses First Next x r h
       (part_quiet statuses [] (Makes x) Has r (subst (λ (y : T). Makes y r) same made) cause)
 
+-- what is read after something else, from files that hold the same
+module _ {T U : Type 0} (First : Names → Expected Status T) (Then : Names → T → Expected Status U) where
+  pub first_stops : (names : Names) (status : Status) → Ends statuses (First names) (Err status)
+      → Ends statuses (Binds statuses (First names) (Then names)) (Err status)
+  first_stops names status h = binds_stops statuses (First names) (Then names) status h
+
+  pub read_after : (held held' : Held) (x seen : T) (r : Result U Status) → held' ≡ held → seen ≡ x
+      → Ends statuses (First (names_in held)) (Ok x)
+      → (IsSome held' → Ends statuses (Then (names_in held') seen) r) → IsSome held
+      → Ends statuses (Binds statuses (First (names_in held)) (Then (names_in held))) r
+  read_after held held' x seen r same same_x is read h =
+      binds_goes statuses (First (names_in held)) (Then (names_in held)) x r is
+      (subst (λ (y : T). Ends statuses (Then (names_in held) y) r) same_x
+      (subst (λ (k : Held). IsSome k → Ends statuses (Then (names_in k) seen) r) same read h))
+
 -- a picture of a trace: the script is refused, or the trace is read after it, from files that hold the same
 module _ (Draws : Script → List ℕ → Result (List ℕ) Status → Type 0) where
   abbrev Then : List ℕ → Names → Script → Expected Status (List ℕ) → Type 0

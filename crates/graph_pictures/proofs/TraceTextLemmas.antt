@@ -11,6 +11,7 @@ use Rattle.std.proofs.lemmas.Slice.Zip.{all_zipped_more}
 use Rattle.pw_graph.specs.declared.event.Event.{Event}
 use Rattle.pw_lists.proofs.PieceLemmas.{first_piece, pieces_after}
 use Rattle.cycle_trace.specs.TraceReading.{is_line_feed, without_empty_last, trace_lines, IsLineOf, IsNoLine, IsFirstFault}
+use Rattle.graph_pictures.specs.declared.asked.Asked.{Asked}
 use Rattle.graph_pictures.specs.TraceText.{is_passed, event_lines_in, IsTrace, IsBad, IsFirstBad, Adds}
 use Rattle.graph_pictures.specs.TraceText.Adds.{passed, event}
 
@@ -32,55 +33,55 @@ one_line text line more cut =
         subst (λ b. is_line_feed b ≡ false) (sym (get_or-take n text k d below)) (fails_before_first is_line_feed text k d below)
 
 -- the lines in front of a rest, and the events that they add
-pub record AreTaken (names : List (List ℕ)) (bytes rest : List ℕ) (events : List Event) (number : ℕ) : Type 0 where
+pub record AreTaken (names : List (List ℕ)) (asked : List Asked) (bytes rest : List ℕ) (events : List Event) (number : ℕ) : Type 0 where
   front : List (List ℕ)
   lines : trace_lines bytes ≡ front ++ trace_lines rest
-  told : IsTrace names front events
+  told : IsTrace names asked front events
   numbered : number ≡ length front + 1
 
-pub none_taken : (names : List (List ℕ)) (bytes : List ℕ) → AreTaken names bytes bytes [] 1
-none_taken names bytes = record { front = []; lines = refl; told = tt; numbered = refl }
+pub none_taken : (names : List (List ℕ)) (asked : List Asked) (bytes : List ℕ) → AreTaken names asked bytes bytes [] 1
+none_taken names asked bytes = record { front = []; lines = refl; told = tt; numbered = refl }
 
 -- event lines of lines, one line more
-more_lines : (names front : List (List ℕ)) (line : List ℕ)
-    → event_lines_in names (front ++ line ∷ []) ≡ event_lines_in names front ++ cond (not (is_passed names line)) (line ∷ []) []
-more_lines names front line = filter-append (λ l. not (is_passed names l)) front (line ∷ [])
+more_lines : (names : List (List ℕ)) (asked : List Asked) (front : List (List ℕ)) (line : List ℕ)
+    → event_lines_in names asked (front ++ line ∷ []) ≡ event_lines_in names asked front ++ cond (not (is_passed names asked line)) (line ∷ []) []
+more_lines names asked front line = filter-append (λ l. not (is_passed names asked l)) front (line ∷ [])
 
-told_more : (names : List (List ℕ)) (front : List (List ℕ)) (line : List ℕ) (old new : List Event) → IsTrace names front old
-    → Adds names line old new → IsTrace names (front ++ line ∷ []) new
-told_more names front line old new told (passed over same) =
-    let lines : event_lines_in names (front ++ line ∷ []) ≡ event_lines_in names front =
-    more_lines names front line ∙ ap (λ (b : Bool). event_lines_in names front ++ cond (not b) (line ∷ []) []) over ∙ append-nil (event_lines_in names front) in
-    subst (λ ls. AllZip (IsLineOf names) ls new) (sym lines) (subst (AllZip (IsLineOf names) (event_lines_in names front)) (sym same) told)
-told_more names front line old new told (event e kept is more) =
-    let lines : event_lines_in names (front ++ line ∷ []) ≡ event_lines_in names front ++ line ∷ [] =
-    more_lines names front line ∙ ap (λ (b : Bool). event_lines_in names front ++ cond (not b) (line ∷ []) []) kept in
-    subst (λ ls. AllZip (IsLineOf names) ls new) (sym lines) (subst (AllZip (IsLineOf names) (event_lines_in names front ++ line ∷ [])) (sym more)
-    (all_zipped_more (IsLineOf names) (event_lines_in names front) old line e told is))
+told_more : (names : List (List ℕ)) (asked : List Asked) (front : List (List ℕ)) (line : List ℕ) (old new : List Event) → IsTrace names asked front old
+    → Adds names asked line old new → IsTrace names asked (front ++ line ∷ []) new
+told_more names asked front line old new told (passed over same) =
+    let lines : event_lines_in names asked (front ++ line ∷ []) ≡ event_lines_in names asked front =
+    more_lines names asked front line ∙ ap (λ (b : Bool). event_lines_in names asked front ++ cond (not b) (line ∷ []) []) over ∙ append-nil (event_lines_in names asked front) in
+    subst (λ ls. AllZip (IsLineOf names) ls new) (sym lines) (subst (AllZip (IsLineOf names) (event_lines_in names asked front)) (sym same) told)
+told_more names asked front line old new told (event e kept is more) =
+    let lines : event_lines_in names asked (front ++ line ∷ []) ≡ event_lines_in names asked front ++ line ∷ [] =
+    more_lines names asked front line ∙ ap (λ (b : Bool). event_lines_in names asked front ++ cond (not b) (line ∷ []) []) kept in
+    subst (λ ls. AllZip (IsLineOf names) ls new) (sym lines) (subst (AllZip (IsLineOf names) (event_lines_in names asked front ++ line ∷ [])) (sym more)
+    (all_zipped_more (IsLineOf names) (event_lines_in names asked front) old line e told is))
 
 -- one line more is taken
-pub take_more : (names : List (List ℕ)) (bytes rest line more : List ℕ) (old new : List Event) (number next : ℕ)
-    → AreTaken names bytes rest old number → trace_lines rest ≡ line ∷ trace_lines more → Adds names line old new
-    → next ≡ number + 1 → AreTaken names bytes more new next
-take_more names bytes rest line more old new number next r cut adds is = record {
+pub take_more : (names : List (List ℕ)) (asked : List Asked) (bytes rest line more : List ℕ) (old new : List Event) (number next : ℕ)
+    → AreTaken names asked bytes rest old number → trace_lines rest ≡ line ∷ trace_lines more → Adds names asked line old new
+    → next ≡ number + 1 → AreTaken names asked bytes more new next
+take_more names asked bytes rest line more old new number next r cut adds is = record {
   front = r.front ++ line ∷ [];
   lines = r.lines ∙ ap (λ t. r.front ++ t) cut ∙ sym (append_assoc r.front (line ∷ []) (trace_lines more));
-  told = told_more names r.front line old new r.told adds;
+  told = told_more names asked r.front line old new r.told adds;
   numbered = omega (arith, is, r.numbered, length-append r.front (line ∷ []));
 }
 
 -- all lines are taken
-pub take_all_lines : (names : List (List ℕ)) (bytes rest : List ℕ) (events : List Event) (number : ℕ) → AreTaken names bytes rest events number
-    → trace_lines rest ≡ [] → IsTrace names (trace_lines bytes) events
-take_all_lines names bytes rest events number r none =
+pub take_all_lines : (names : List (List ℕ)) (asked : List Asked) (bytes rest : List ℕ) (events : List Event) (number : ℕ) → AreTaken names asked bytes rest events number
+    → trace_lines rest ≡ [] → IsTrace names asked (trace_lines bytes) events
+take_all_lines names asked bytes rest events number r none =
     let whole : trace_lines bytes ≡ r.front = r.lines ∙ ap (λ t. r.front ++ t) none ∙ append-nil r.front in
-    subst (λ ls. IsTrace names ls events) (sym whole) r.told
+    subst (λ ls. IsTrace names asked ls events) (sym whole) r.told
 
 -- the first line that is bad
-pub first_bad : (names : List (List ℕ)) (bytes rest line : List ℕ) (others : List (List ℕ)) (events : List Event) (number : ℕ)
-    → AreTaken names bytes rest events number → trace_lines rest ≡ line ∷ others → IsBad names line
-    → IsFirstBad names (trace_lines bytes) number
-first_bad names bytes rest line others events number r cut bad =
+pub first_bad : (names : List (List ℕ)) (asked : List Asked) (bytes rest line : List ℕ) (others : List (List ℕ)) (events : List Event) (number : ℕ)
+    → AreTaken names asked bytes rest events number → trace_lines rest ≡ line ∷ others → IsBad names asked line
+    → IsFirstBad names asked (trace_lines bytes) number
+first_bad names asked bytes rest line others events number r cut bad =
     let whole : trace_lines bytes ≡ r.front ++ line ∷ others = r.lines ∙ ap (λ t. r.front ++ t) cut in
     let at : number - 1 ≡ length r.front = omega (arith, r.numbered) in
     let front : take (number - 1) (trace_lines bytes) ≡ r.front =
@@ -94,8 +95,8 @@ first_bad names bytes rest line others events number r cut bad =
       counted = omega (arith, r.numbered);
       there = omega (arith, r.numbered, ap length whole, length-append r.front (line ∷ others));
       before = events;
-      told = subst (λ ls. IsTrace names ls events) (sym front) r.told;
-      bad = subst (IsBad names) (sym here) bad;
+      told = subst (λ ls. IsTrace names asked ls events) (sym front) r.told;
+      bad = subst (IsBad names asked) (sym here) bad;
     }
 
 -- a single line: its event, or none

@@ -14,9 +14,9 @@ use Rattle.graph_pictures.specs.declared.status.Status.TheVariants as S
 use Rattle.graph_pictures.specs.declared.words.Request.{Request}
 use Rattle.graph_pictures.specs.declared.words.Request.TheVariants as R
 use Rattle.graph_pictures.specs.GraphText.{graph_text}
-use Rattle.graph_pictures.specs.Reading.{IsScriptRead, IsTraceDrawn}
+use Rattle.graph_pictures.specs.Reading.{IsScriptRead, IsTraceDrawn, IsNotedDrawn}
 use Rattle.graph_pictures.specs.Statuses.{statuses}
-use Rattle.graph_pictures.specs.TraceAnswers.{DrawsTrace, DrawsRun}
+use Rattle.graph_pictures.specs.TraceAnswers.{DrawsTrace, DrawsRun, DrawsNoted}
 use Rattle.graph_pictures.specs.WaveReading.{IsWaveDrawn}
 use Rattle.graph_pictures.specs.Words.{request_of}
 
@@ -36,11 +36,20 @@ abbrev pub IsRunDrawn : (Script → List ℕ → Result (List ℕ) Status → Ty
 IsRunDrawn Draws script trace names = Binds statuses (IsScriptRead script names)
     (λ s. IsTraceDrawn (Draws s) trace names)
 
--- THE PICTURE of a request; of a bad line of a trace this is the name that the script does not have
+-- the graph of the script of a file, by the trace and the notes of others, which are read after it
+abbrev pub IsNotedGraph : List ℕ → List ℕ → List ℕ → List ℕ → Names → Expected Status (List ℕ)
+    → Type 0
+IsNotedGraph stranger script trace notes names = Binds statuses (IsScriptRead script names)
+    (λ s. IsNotedDrawn (DrawsNoted stranger script s) trace notes names)
+
+-- THE PICTURE of a request; of a bad line of a trace this is what it names and the script does not
+-- have
 abbrev pub IsPicture : List ℕ → Request → Names → Expected Status (List ℕ) → Type 0
 IsPicture stranger (R.Graph script) names = IsGraphDrawn script names
 IsPicture stranger (R.RunGraph script trace) names =
     IsRunDrawn (DrawsRun stranger) script trace names
+IsPicture stranger (R.NotedGraph script trace notes) names =
+    IsNotedGraph stranger script trace notes names
 IsPicture stranger (R.Timeline script trace cycles at) names =
     IsRunDrawn (DrawsTrace cycles at stranger) script trace names
 IsPicture stranger (R.Wave file) names = IsWaveDrawn file names

@@ -1,39 +1,15 @@
--- Links of a graph as DOT edges, from the field of a port to that of another. They leave to the
--- east and enter from the west; a way back goes over the nodes, or under them.
+-- Links of a graph as DOT edges, from the field of a port to that of another.
 -- Source: graphviz.org, "DOT Language", edges with ports and compass points.
-use Rattle.std.specs.Prelude.{ℕ, ◌==◌, ◌&&◌, ◌||◌, Bool, true, false, List, [], ◌∷◌, ◌++◌, codes}
+use Rattle.std.specs.Prelude.{ℕ, ◌&&◌, Bool, true, false, List, [], ◌∷◌, ◌++◌, codes}
 use Rattle.std.specs.Prelude.{Option, Some, None, bytes_eq, if◌then◌else◌}
 use Rattle.pw_graph.specs.declared.ids.PortId.{PortId}
 use Rattle.graph_pictures.specs.declared.outcomes.LinkOutcomes.{LinkOutcomes}
 use Rattle.graph_pictures.specs.declared.refusals.Refusal.{Refusal}
 use Rattle.graph_pictures.specs.Escaping.{dot_escaped}
+use Rattle.graph_pictures.specs.LinkEnds.{from_text, to_text}
 use Rattle.graph_pictures.specs.LinkOutcomes.{is_late, is_unlinked, is_back}
 use Rattle.graph_pictures.specs.Template.{filled}
 use Rattle.graph_pictures.specs.Refusals.{refusal_at}
-
--- the sides at which a link leaves its output and enters its input. A way back has the top, or the
--- bottom at a second input and at a third port: a `split`'s right one, and a `mix2`'s output
-abbrev pub is_under : PortId → PortId → Bool
-is_under from to = to.port == 1 || from.port == 2
-
-abbrev pub out_side : Bool → Bool → List ℕ
-out_side false under = codes ":e"
-out_side true false = codes ":n"
-out_side true true = codes ":s"
-
-abbrev pub in_side : Bool → Bool → List ℕ
-in_side false under = codes ":w"
-in_side true false = codes ":n"
-in_side true true = codes ":s"
-
--- the ends of a link, of which it is said whether it is drawn as a way back
-abbrev pub from_text : Bool → PortId → PortId → List ℕ
-from_text back from to =
-    filled (codes "n%:p%") (from.node ∷ from.port ∷ []) ++ out_side back (is_under from to)
-
-abbrev pub to_text : Bool → PortId → PortId → List ℕ
-to_text back from to =
-    filled (codes "n%:p%") (to.node ∷ to.port ∷ []) ++ in_side back (is_under from to)
 
 -- late links are dashed, those that are cut are grey
 abbrev pub style_text : Bool → Bool → List ℕ
@@ -55,15 +31,20 @@ cause_text cause = if bytes_eq cause (codes "65539") then codes "no common rate"
     else (if bytes_eq cause (codes "65540") then codes "no common channels"
     else dot_escaped cause)
 
+-- what both sides admit, on a line of its own
+abbrev pub sides_text : List ℕ → List ℕ
+sides_text [] = []
+sides_text (byte ∷ bytes) = codes "\\n" ++ dot_escaped (byte ∷ bytes)
+
 -- a link that is refused goes through a note with the cause, which covers what is under it
-abbrev pub note_text : ℕ → List ℕ → List ℕ
-note_text number cause =
+abbrev pub note_text : ℕ → List ℕ → List ℕ → List ℕ
+note_text number cause sides =
     filled (codes "  r% [shape=plaintext, style=filled, fillcolor=white, label=\"") (number ∷ [])
-    ++ cause_text cause ++ codes "\"];\n"
+    ++ cause_text cause ++ sides_text sides ++ codes "\"];\n"
 
 -- and its two parts are grey dots
-abbrev pub refused_text : ℕ → Bool → PortId → PortId → List ℕ → List ℕ
-refused_text number back from to cause = note_text number cause
+abbrev pub refused_text : ℕ → Bool → PortId → PortId → List ℕ → List ℕ → List ℕ
+refused_text number back from to cause sides = note_text number cause sides
     ++ codes "  " ++ from_text back from to
     ++ filled (codes " -> r% [style=dotted, color=gray, arrowhead=none];\n  r% -> ")
     (number ∷ number ∷ [])
@@ -72,7 +53,7 @@ refused_text number back from to cause = note_text number cause
 -- THE STATEMENT of the link of a line
 abbrev pub told_text : LinkOutcomes → ℕ → PortId → PortId → Option Refusal → List ℕ
 told_text outcomes number from to (Some refusal) =
-    refused_text number (is_back outcomes from to) from to refusal.cause
+    refused_text number (is_back outcomes from to) from to refusal.cause refusal.sides
 told_text outcomes number from to None = made_text outcomes number from to
 
 abbrev pub link_text : LinkOutcomes → ℕ → PortId → PortId → List ℕ

@@ -9,6 +9,7 @@ use Rattle.graph_script.specs.declared.script.Line.{Line}
 use Rattle.graph_script.specs.declared.script.Script.{Script}
 use Rattle.graph_script.specs.Kinds.{made_by}
 use Rattle.graph_pictures.specs.declared.outcomes.LinkOutcomes.{LinkOutcomes}
+use Rattle.graph_pictures.specs.Asked.{asked_of}
 use Rattle.graph_pictures.specs.Template.{filled}
 use Rattle.graph_pictures.specs.LinkOutcomes.{outcomes_of, loop_of}
 use Rattle.graph_pictures.specs.GraphLinks.{link_text}
@@ -44,7 +45,12 @@ lines_text names outcomes lines = head_text
     ++ flat_map (λ l. statement_text names outcomes l.line l.command) lines
     ++ legend_text outcomes lines ++ filled (codes "}\n") []
 
--- THE PICTURE of a script, and of what its run did, by the lines of its text; without a run there
--- are no lines
-unfoldable pub graph_text : Script → List (List ℕ) → List ℕ
-graph_text script run = lines_text script.names (outcomes_of script.lines run) script.lines
+-- THE PICTURE of a script, of what its run did, by the lines of its text, and of what both sides of
+-- a link that it refused admit, by the notes of the run of the script of this name
+unfoldable pub noted_text : Script → List (List ℕ) → List ℕ → List (List ℕ) → List ℕ
+noted_text script run file notes = lines_text script.names
+    (outcomes_of script.lines (asked_of script) run file notes) script.lines
+
+-- without notes; and without a run there are no lines
+abbrev pub graph_text : Script → List (List ℕ) → List ℕ
+graph_text script run = noted_text script run [] []

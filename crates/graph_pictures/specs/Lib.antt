@@ -1,3 +1,4 @@
+pub mod Asked
 pub mod Bands
 pub mod Answers
 pub mod Cycles
@@ -8,10 +9,13 @@ pub mod GraphLinks
 pub mod GraphNodes
 pub mod GraphText
 pub mod Legend
+pub mod LinkEnds
 pub mod Marks
+pub mod Notes
 pub mod Reading
 pub mod Refusals
 pub mod Rows
+pub mod RunSentences
 pub mod ScriptSentences
 pub mod FileSentences
 pub mod UsageSentences

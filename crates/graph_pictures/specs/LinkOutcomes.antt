@@ -9,6 +9,7 @@ use Rattle.pw_graph.specs.Pools.{is_same_port}
 use Rattle.graph_script.specs.declared.command.Command.{Command}
 use Rattle.graph_script.specs.declared.command.Command.TheVariants as C
 use Rattle.graph_script.specs.declared.script.Line.{Line}
+use Rattle.graph_pictures.specs.declared.asked.Asked.{Asked}
 use Rattle.graph_pictures.specs.declared.outcomes.UnlinkLine.{UnlinkLine}
 use Rattle.graph_pictures.specs.declared.outcomes.LinkOutcomes.{LinkOutcomes}
 use Rattle.graph_pictures.specs.declared.outcomes.Joined.{Joined}
@@ -35,14 +36,16 @@ abbrev pub joined_by : Command → Option Joined
 joined_by (C.Link from to) = Some (record { from = from.node; to = to.node })
 joined_by other = None
 
--- WHAT BECOMES of links and nodes, by the lines of a script and of its run
-abbrev pub outcomes_of : List Line → List (List ℕ) → LinkOutcomes
-outcomes_of lines run = record {
+-- WHAT BECOMES of links and nodes, by the lines of a script, what they ask for, those of its run,
+-- and the notes of the run of a script of this name
+abbrev pub outcomes_of : List Line → List Asked → List (List ℕ) → List ℕ → List (List ℕ)
+    → LinkOutcomes
+outcomes_of lines asked run file notes = record {
   late = filter_map (λ l. async_node l.command) lines;
   unlinks = filter_map (λ l. unlink_at l.line l.command) lines;
   placed = filter_map (λ l. placed_by l.command) lines;
   joined = filter_map (λ l. joined_by l.command) lines;
-  refused = refusals (link_numbers lines) (told_links run);
+  refused = refusals asked file notes (link_numbers lines) (told_links run);
 }
 
 -- a link hands on what was made one cycle earlier: an `async` line names the node at an end of it

@@ -20,6 +20,10 @@ trace_place = 2 ^ 32 - 1
 abbrev pub trace_bytes_limit : ℕ
 trace_bytes_limit = 268435456
 
+-- the place of notes, the index of their word
+abbrev pub notes_place : ℕ
+notes_place = 3
+
 -- what bytes of a script are read as
 abbrev pub ParsesTo : List ℕ → Result Script Status → Type 0
 ParsesTo bytes (Ok script) = script_of bytes ≡ Ok script
@@ -43,3 +47,19 @@ abbrev pub IsTraceDrawn : (List ℕ → Result (List ℕ) Status → Type 0) →
     → Expected Status (List ℕ) → Type 0
 IsTraceDrawn Draws name names = Binds statuses (IsTraceLoad name names)
     (λ bytes. Reads statuses (Draws bytes))
+
+-- the bytes of the notes of a file
+abbrev pub IsNotesLoad : List ℕ → Names → Expected Status (List ℕ) → Type 0
+IsNotesLoad name names =
+    IsLoad statuses names notes_place name trace_bytes_limit (S.Limit notes_place W.TraceBytes)
+
+-- THE PICTURE of a trace and of notes, which are read after it
+abbrev pub AreNotesDrawn : (List ℕ → Result (List ℕ) Status → Type 0) → List ℕ → Names
+    → Expected Status (List ℕ) → Type 0
+AreNotesDrawn Draws name names = Binds statuses (IsNotesLoad name names)
+    (λ notes. Reads statuses (Draws notes))
+
+abbrev pub IsNotedDrawn : (List ℕ → List ℕ → Result (List ℕ) Status → Type 0) → List ℕ → List ℕ
+    → Names → Expected Status (List ℕ) → Type 0
+IsNotedDrawn Draws trace notes names = Binds statuses (IsTraceLoad trace names)
+    (λ bytes. AreNotesDrawn (Draws bytes) notes names)

@@ -11,15 +11,16 @@ use Rattle.graph_pictures.specs.declared.status.Status.{Status}
 use Rattle.graph_pictures.specs.declared.status.Status.TheVariants as S
 use Rattle.graph_pictures.specs.FileSentences.{wav_said, bytes_said}
 use Rattle.graph_pictures.specs.Template.{filled}
-use Rattle.graph_pictures.specs.Reading.{trace_place}
+use Rattle.graph_pictures.specs.Reading.{trace_place, notes_place}
+use Rattle.graph_pictures.specs.RunSentences.{no_node}
 use Rattle.graph_pictures.specs.ScriptSentences.{why_said}
 use Rattle.graph_pictures.specs.UsageSentences.{usage_said, first_said}
 use Rattle.word_hints.specs.ShellSigns.{shell_hint}
 
--- the file at a place: the third word is the trace's, the second any other's
+-- the file at a place: the third word is the trace's, the fourth the notes', the second any other's
 abbrev pub file_word : List (List ℕ) → ℕ → List ℕ
 file_word words place = if place == trace_place then slice_index_or words 2 []
-    else slice_index_or words 1 []
+    else (if place == notes_place then slice_index_or words 3 [] else slice_index_or words 1 [])
 
 abbrev pub file_said : List (List ℕ) → ℕ → List ℕ
 file_said words place = escaped (file_word words place)
@@ -33,11 +34,7 @@ of_file front words place said =
 abbrev pub of_script : List (List ℕ) → ℕ → ScriptWhy → List ℕ
 of_script words line why = of_file [] words 0 (filled (codes ":%: ") (line ∷ [])) ++ why_said why
 
--- a line of a trace that is refused, by the name in it that the script does not have, or none
-abbrev pub no_node : List ℕ → List ℕ → List ℕ
-no_node script name = codes "the run of another script: " ++ escaped script
-    ++ codes " has no node " ++ escaped name ++ codes "\n"
-
+-- a line of a trace that is refused
 abbrev pub line_said : List (List ℕ) → List ℕ → List ℕ
 line_said words [] = codes "no line of a run\n"
 line_said words (c ∷ cs) = no_node (file_word words 0) (c ∷ cs)

@@ -1,11 +1,13 @@
--- The node that a line of a run names and its script does not have: a text of another script is
--- known by it.
+-- What a line of a run names and its script does not have, a node or a link: a text of another
+-- script is known by it.
 -- Source: this project's own: the lines of `pipegraph run`, docs/FORMATS.md.
-use Rattle.std.specs.Prelude.{ℕ, ◌==◌, ◌||◌, Bool, List, [], codes, bytes_eq, if◌then◌else◌}
+use Rattle.std.specs.Prelude.{ℕ, ◌==◌, ◌&&◌, ◌||◌, Bool, not, List, [], ◌++◌, codes, bytes_eq, if◌then◌else◌}
 use Rattle.std.specs.Prelude.{Option, Some, None, is_some, position, slice_index_or}
 use Rattle.std.specs.List.{slice_split}
 use Rattle.std.specs.Option.{option_or}
 use Rattle.graph_script.specs.Lexical.{words_of}
+use Rattle.graph_pictures.specs.declared.asked.Asked.{Asked}
+use Rattle.graph_pictures.specs.Asked.{is_asked, tells_unlink}
 use Rattle.graph_pictures.specs.LineWords.{is_of_link, is_of_end, is_of_node}
 
 -- the node of a word: what is before its first dot
@@ -32,10 +34,26 @@ stranger names line =
     else (if is_of_end line then missed_at names line 1
     else (if is_of_node line then missed_at names line 2 else None))
 
--- its name; nothing where there is none
-abbrev pub name_or_none : Option (List ℕ) → List ℕ
-name_or_none None = []
-name_or_none (Some name) = name
+-- a line of a link for which no line of the script asks
+abbrev pub is_unasked : List Asked → List ℕ → Bool
+is_unasked asked line = is_of_link line && not (is_asked asked line)
 
-abbrev pub stranger_name : List (List ℕ) → List ℕ → List ℕ
-stranger_name names line = name_or_none (stranger names line)
+-- A LINE OF ANOTHER SCRIPT'S RUN
+abbrev pub is_strange : List (List ℕ) → List Asked → List ℕ → Bool
+is_strange names asked line = is_some (stranger names line) || is_unasked asked line
+
+-- the line of a script that a line of a run with two ends would answer
+unfoldable pub link_asked : List ℕ → List ℕ
+link_asked line = (if tells_unlink line then codes "unlink " else codes "link ")
+    ++ (slice_index_or (words_of line) 1 [] ++ (codes " " ++ slice_index_or (words_of line) 2 []))
+
+-- the name of the node, or that line of a script; nothing where there is no stranger
+abbrev pub link_or_none : List Asked → List ℕ → List ℕ
+link_or_none asked line = if is_unasked asked line then link_asked line else []
+
+abbrev pub name_or_link : List Asked → List ℕ → Option (List ℕ) → List ℕ
+name_or_link asked line None = link_or_none asked line
+name_or_link asked line (Some name) = name
+
+abbrev pub stranger_name : List (List ℕ) → List Asked → List ℕ → List ℕ
+stranger_name names asked line = name_or_link asked line (stranger names line)

@@ -8,7 +8,7 @@ use Rattle.word_hints.specs.Guesses.{guesses, question}
 
 -- the forms of the commands, the version, and where the manual is
 abbrev pub usage_said : List ℕ
-usage_said = codes "usage: pipegraph-pictures graph SCRIPT [TRACE] | " ++ codes
+usage_said = codes "usage: pipegraph-pictures graph SCRIPT [RUN [NOTES]] | " ++ codes
     "timeline SCRIPT TRACE [FROM TO] [VERDICT] | wave FILE\n" ++ codes
     "version 0.1; the manual: man pipegraph-pictures where it is installed, and " ++ codes
     "man -l docs/pipegraph-pictures.1\n"

@@ -9,11 +9,16 @@ use Rattle.graph_pictures.specs.declared.words.Request.{Request}
 use Rattle.graph_pictures.specs.declared.words.Request.TheVariants as R
 use Rattle.graph_pictures.specs.VerdictWords.{is_verdict, verdict_of}
 
--- the words after `graph`: a script, and after it the trace of its run or nothing
+-- the words after `graph`: a script, and after it the trace of its run or nothing, and after that
+-- the notes of the run or nothing
+abbrev pub run_behind : List ℕ → List ℕ → Words → Result Request ℕ
+run_behind script trace [] = Ok (R.RunGraph script trace)
+run_behind script trace (notes ∷ rest) = then_file 3 (notes ∷ rest)
+    (λ file more. then_nothing 4 more (R.NotedGraph script trace file))
+
 abbrev pub graph_behind : List ℕ → Words → Result Request ℕ
 graph_behind script [] = Ok (R.Graph script)
-graph_behind script (trace ∷ rest) = then_file 2 (trace ∷ rest)
-    (λ file more. then_nothing 3 more (R.RunGraph script file))
+graph_behind script (trace ∷ rest) = then_file 2 (trace ∷ rest) (run_behind script)
 
 abbrev pub graph_of : Words → Result Request ℕ
 graph_of words = then_file 1 words graph_behind

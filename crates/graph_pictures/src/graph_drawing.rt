@@ -1,8 +1,9 @@
 //! The picture of a script's graph.
 ghost use Rattle.std.specs.Prelude.{◌≡◌, ◌++◌, OnOk, IfOk, flat_map};
 ghost use Rattle.cycle_trace.specs.TraceReading.{trace_lines};
-ghost use Rattle.graph_pictures.specs.GraphText.{head_text, statement_text, lines_text, graph_text};
+ghost use Rattle.graph_pictures.specs.GraphText.{head_text, statement_text, lines_text, graph_text, noted_text};
 
+use crate::asked::asked_of;
 use crate::graph_links::put_link;
 use crate::graph_nodes::put_node;
 use crate::legend::put_legend;
@@ -114,12 +115,29 @@ fn put_lines(
 /// buffers and cycles draw nothing; below is what those marks mean that occur. Takes memory for
 /// the text and for each `async`, `link`, `loop` and `unlink` line; time in proportion to the
 /// lines, and for each link or `off` line to them once more.
-#[tactic(auto, unfolding(crate::specs::GraphText::graph_text))]
 pub fn graph(alloc: Global, script: &Script, run: &[u8]) -> Result<Text, Memory>
     ensures { IfOk result (λ text. text ≡ graph_text script.now (trace_lines run.now)) }
 {
+    noted_graph(alloc, script, run, &[], &[])
+}
+
+/// The graph of a script with what a run of it did, as `graph` draws it; the note of a refused link
+/// has what both sides admit too, where `notes`, the standard error of the run, says so of the
+/// script under the name `file`. Takes time in proportion to the notes for each refused link.
+#[tactic(auto, unfolding(crate::specs::GraphText::noted_text))]
+pub fn noted_graph(
+    alloc: Global,
+    script: &Script,
+    run: &[u8],
+    file: &[u8],
+    notes: &[u8],
+) -> Result<Text, Memory>
+    ensures { IfOk result (λ text. text
+        ≡ noted_text script.now (trace_lines run.now) file.now (trace_lines notes.now)) }
+{
     let lines = script.lines.as_slice();
-    let outcomes = outcomes_of(alloc, lines, run)?;
+    let asked = asked_of(alloc, script)?;
+    let outcomes = outcomes_of(alloc, lines, asked.as_slice(), run, file, notes)?;
     let mut text = Items::new(alloc);
     put_lines(&mut text, script.names.as_slice(), &outcomes, lines)?;
     Ok(text)

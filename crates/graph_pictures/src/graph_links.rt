@@ -1,6 +1,7 @@
 //! The statements of links at the end of a text. After `Memory` the text has a part of them.
 ghost use Rattle.std.specs.Prelude.{◌≡◌, ◌++◌, OnOk, option_copied};
-ghost use Rattle.graph_pictures.specs.GraphLinks.{is_under, out_side, in_side, from_text, to_text, style_text, made_text, cause_text, note_text, refused_text, told_text, link_text};
+ghost use Rattle.graph_pictures.specs.LinkEnds.{is_under, out_side, in_side, from_text, to_text};
+ghost use Rattle.graph_pictures.specs.GraphLinks.{style_text, made_text, cause_text, sides_text, note_text, refused_text, told_text, link_text};
 
 use crate::escaping::put_dot;
 use crate::outcomes::{LinkOutcomes, is_back, is_late, is_unlinked};
@@ -105,9 +106,23 @@ fn put_cause(text: &mut Text, cause: &[u8]) -> Result<(), Memory>
     }
 }
 
+// What both sides of a refused link admit.
+#[tactic(auto, using(crate::proofs::Grown::texts))]
+fn put_sides(text: &mut Text, sides: &[u8]) -> Result<(), Memory>
+    ensures { OnOk result (text.new ≡ text.old ++ sides_text sides.now) }
+{
+    match sides {
+        [] => Ok(()),
+        [_, ..] => {
+            text.extend(b"\\n")?;
+            put_dot(text, sides)
+        }
+    }
+}
+
 // The note that a refused link goes through.
-fn put_note(text: &mut Text, number: u64, cause: &[u8]) -> Result<(), Memory>
-    ensures { OnOk result (text.new ≡ text.old ++ note_text number cause.now) }
+fn put_note(text: &mut Text, number: u64, cause: &[u8], sides: &[u8]) -> Result<(), Memory>
+    ensures { OnOk result (text.new ≡ text.old ++ note_text number cause.now sides.now) }
 {
     fill(
         text,
@@ -115,11 +130,12 @@ fn put_note(text: &mut Text, number: u64, cause: &[u8]) -> Result<(), Memory>
         &[number],
     )?;
     put_cause(text, cause)?;
+    put_sides(text, sides)?;
     text.extend(b"\"];\n")?;
     Ok(())
 }
 
-// The statements of a link that is refused for this cause.
+// The statements of a link that is refused for this cause, by what both sides admit.
 fn put_refused(
     text: &mut Text,
     number: u64,
@@ -127,11 +143,12 @@ fn put_refused(
     from: PortId,
     to: PortId,
     cause: &[u8],
+    sides: &[u8],
 ) -> Result<(), Memory>
     ensures { OnOk result
-        (text.new ≡ text.old ++ refused_text number back from to cause.now) }
+        (text.new ≡ text.old ++ refused_text number back from to cause.now sides.now) }
 {
-    put_note(text, number, cause)?;
+    put_note(text, number, cause, sides)?;
     text.extend(b"  ")?;
     put_from(text, back, from, to)?;
     fill(
@@ -164,6 +181,7 @@ fn put_told(
             from,
             to,
             refusal.cause.as_slice(),
+            refusal.sides.as_slice(),
         ),
         None => put_made(text, outcomes, number, from, to),
     }

@@ -7,6 +7,7 @@
 //! words of the script, escaped (`escaping`).
 #![tactic(auto)]
 
+mod asked;
 mod bands;
 mod cycles;
 mod drawing;
@@ -19,6 +20,8 @@ mod graph_nodes;
 mod legend;
 mod marks;
 mod nodes_at_work;
+mod noted_reading;
+mod notes;
 mod outcomes;
 mod reading;
 mod refusals;
@@ -41,7 +44,7 @@ mod wave_ticks;
 mod words;
 
 pub use drawing::print_picture;
-pub use graph_drawing::graph;
+pub use graph_drawing::{graph, noted_graph};
 pub use marks::Mark;
 pub use sentences::explain;
 pub use status::Status;

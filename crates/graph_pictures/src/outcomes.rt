@@ -5,6 +5,7 @@ ghost use Rattle.std.specs.List.{list_any};
 ghost use Rattle.cycle_trace.specs.TraceReading.{trace_lines};
 ghost use Rattle.graph_pictures.specs.LinkOutcomes.{async_node, unlink_at, placed_by, joined_by, outcomes_of, is_late, unlinks_after, is_unlinked, is_back, loop_after, loop_of};
 
+use crate::asked::Asked;
 use crate::refusals::{Refusal, link_numbers, refusals_of};
 use graph_script::{Command, Line};
 use pw_graph::{PortId, is_same_port};
@@ -135,13 +136,22 @@ fn joined_of(alloc: Global, lines: &[Line]) -> Result<Items<Joined>, Memory>
     }
 }
 
-/// What becomes of the links and the nodes of a script, by its lines and the text of its run. Takes
-/// memory for each `async`, `link`, `loop` and `unlink` line.
-pub(crate) fn outcomes_of(alloc: Global, lines: &[Line], run: &[u8]) -> Result<LinkOutcomes, Memory>
-    ensures { IfOk result (λ outcomes. outcomes ≡ outcomes_of lines.now (trace_lines run.now)) }
+/// What becomes of the links and the nodes of a script, by its lines, what they ask for, the text
+/// of its run and the notes of the run of the script of this name. Takes memory for each `async`,
+/// `link`, `loop` and `unlink` line.
+pub(crate) fn outcomes_of(
+    alloc: Global,
+    lines: &[Line],
+    asked: &[Asked],
+    run: &[u8],
+    file: &[u8],
+    notes: &[u8],
+) -> Result<LinkOutcomes, Memory>
+    ensures { IfOk result (λ outcomes. outcomes ≡ outcomes_of lines.now asked.now
+        (trace_lines run.now) file.now (trace_lines notes.now)) }
 {
     let numbers = link_numbers(alloc, lines)?;
-    let refused = refusals_of(alloc, numbers.as_slice(), run)?;
+    let refused = refusals_of(alloc, asked, file, notes, numbers.as_slice(), run)?;
     let placed = placed_of(alloc, lines)?;
     let joined = joined_of(alloc, lines)?;
     let mut late = Items::new(alloc);

@@ -13,6 +13,7 @@ ghost use Rattle.graph_pictures.specs.working.Sound.{IsSoundScript, Anything};
 use crate::cycles::{Cycles, chosen};
 use crate::graph_drawing::graph;
 use crate::marks::mark_of;
+use crate::noted_reading::read_noted_graph;
 use crate::status::Status;
 use crate::strangers::stranger_in;
 use crate::timeline_drawing::timeline;
@@ -51,8 +52,12 @@ fn parsed(alloc: Global, bytes: &[u8]) -> Result<Script, Status>
     }
 }
 
-// The script of a file.
-fn read_script<F: Files>(alloc: Global, files: &mut F, name: &Text) -> Result<Script, Status>
+/// The script of a file.
+pub(crate) fn read_script<F: Files>(
+    alloc: Global,
+    files: &mut F,
+    name: &Text,
+) -> Result<Script, Status>
     ensures files { LoadsOnly (F.held files.old) (F.held files.new) (F.load_faults files.old)
         (F.load_faults files.new) (F.store_faults files.old) (F.store_faults files.new) }
     ensures told { Tells statuses (F.held files.old) (IsScriptRead name.now) result }
@@ -95,7 +100,7 @@ fn read_graph<F: Files>(alloc: Global, files: &mut F, name: &Text) -> Result<Tex
 }
 
 // The timeline of those events of a run's text that are asked for, with the mark at the event of a
-// number; of a bad line the name that the script does not have is kept.
+// number; of a bad line what it names and the script does not have is kept.
 fn drawn_trace(
     alloc: Global,
     script: &Script,
@@ -108,9 +113,9 @@ fn drawn_trace(
     ensures drawn { DrawsTrace cycles at stranger.new script.now bytes.now result }
     ensures cause { CommandCause statuses Anything 0 0 result }
 {
-    match read_run(alloc, script.names(), bytes) {
+    match read_run(alloc, script, bytes) {
         Err(TraceFault::Line(number)) => {
-            match stranger_in(alloc, script.names().as_slice(), bytes, number) {
+            match stranger_in(alloc, script, bytes, number) {
                 Ok(name) => {
                     *stranger = name;
                     Err(Status::Line { number })
@@ -133,8 +138,8 @@ fn drawn_trace(
     }
 }
 
-// The graph of a script, with what a run's text says of its links; of a bad line the name that the
-// script does not have is kept.
+// The graph of a script, with what a run's text says of its links; of a bad line what it names and
+// the script does not have is kept.
 fn drawn_run(
     alloc: Global,
     script: &Script,
@@ -145,9 +150,9 @@ fn drawn_run(
     ensures drawn { DrawsRun stranger.new script.now bytes.now result }
     ensures cause { CommandCause statuses Anything 0 0 result }
 {
-    match read_run(alloc, script.names(), bytes) {
+    match read_run(alloc, script, bytes) {
         Err(TraceFault::Line(number)) => {
-            match stranger_in(alloc, script.names().as_slice(), bytes, number) {
+            match stranger_in(alloc, script, bytes, number) {
                 Ok(name) => {
                     *stranger = name;
                     Err(Status::Line { number })
@@ -163,8 +168,12 @@ fn drawn_run(
     }
 }
 
-// The bytes of the trace of a file.
-fn load_trace<F: Files>(alloc: Global, files: &mut F, name: &Text) -> Result<Items<u8>, Status>
+/// The bytes of the trace of a file.
+pub(crate) fn load_trace<F: Files>(
+    alloc: Global,
+    files: &mut F,
+    name: &Text,
+) -> Result<Items<u8>, Status>
     ensures files { LoadsOnly (F.held files.old) (F.held files.new) (F.load_faults files.old)
         (F.load_faults files.new) (F.store_faults files.old) (F.store_faults files.new) }
     ensures told { Tells statuses (F.held files.old) (IsTraceLoad name.now) result }
@@ -305,8 +314,9 @@ fn read_wave<F: Files>(alloc: Global, files: &mut F, name: &Text) -> Result<Text
     }
 }
 
-/// The picture that a request asks for, by the files; of a bad line of a trace the name of the node
-/// that the script does not have is kept, or none. A load that fails raises the count of the files.
+/// The picture that a request asks for, by the files; of a bad line of a trace the name of the
+/// node, or the line for a link, that the script does not have is kept, or nothing. A load that fails
+/// raises the count of the files.
 pub(crate) fn picture_of<F: Files>(
     alloc: Global,
     files: &mut F,
@@ -324,6 +334,11 @@ pub(crate) fn picture_of<F: Files>(
         Request::RunGraph { script, trace } => {
             read_run_graph(alloc, files, script, trace, stranger)
         }
+        Request::NotedGraph {
+            script,
+            trace,
+            notes,
+        } => read_noted_graph(alloc, files, script, trace, notes, stranger),
         Request::Timeline {
             script,
             trace,

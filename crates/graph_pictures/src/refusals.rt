@@ -1,9 +1,11 @@
-//! Which links a run refused, and why.
+//! Which links a run refused, why, and what both sides admit.
 ghost use Rattle.std.specs.Prelude.{◌≡◌, [], ◌∷◌, ◌++◌, IfOk, MatchOption, option_copied, option_to_list, slice_index_or};
 ghost use Rattle.cycle_trace.specs.TraceReading.{trace_lines};
 ghost use Rattle.graph_script.specs.Lexical.{words_of};
-ghost use Rattle.graph_pictures.specs.Refusals.{link_at, link_numbers, tells_link, told_links, refusal_of, refusals, is_refused, refusal_at};
+ghost use Rattle.graph_pictures.specs.Refusals.{link_at, link_numbers, tells_link, told_links, sides_told, refusal_of, refusals, is_refused, refusal_at};
 
+use crate::asked::{Asked, is_about};
+use crate::notes::sides_of;
 use crate::outcomes::push_some;
 use crate::strangers::begins;
 use crate::trace_text::next_line;
@@ -11,11 +13,13 @@ use graph_script::{Command, Line, next_word};
 use pw_lists::{Items, Memory, Text};
 use std::alloc::Global;
 
-/// A `link` line, by its number, whose link a run refused, and the cause.
+/// A `link` line, by its number, whose link a run refused, and the cause; what both sides admit, or
+/// nothing where that is not known.
 #[derive(Drop)]
 pub struct Refusal {
     pub line: u32,
     pub cause: Text,
+    pub sides: Text,
 }
 
 // The number of a line that links.
@@ -85,29 +89,59 @@ pub(crate) fn word_at(line: &[u8], index: u32) -> &[u8]
     }
 }
 
-// What a line of a run says of the link on the line of this number.
-fn refusal_of(alloc: Global, number: u32, told: &[u8]) -> Result<Option<Refusal>, Memory>
-    ensures { IfOk result (λ r. r ≡ refusal_of number told.now) }
+// What the notes of a run say of both sides of the link that a line of it refuses.
+fn sides_told(
+    alloc: Global,
+    file: &[u8],
+    notes: &[u8],
+    number: u32,
+    told: &[u8],
+) -> Result<Text, Memory>
+    ensures { IfOk result
+        (λ sides. sides ≡ sides_told file.now (trace_lines notes.now) number told.now) }
 {
-    if !begins(told, b"nolink ") {
+    let (from, to, key) = (word_at(told, 1), word_at(told, 2), word_at(told, 3));
+    sides_of(alloc, file, notes, number, from, to, key)
+}
+
+// What a line of a run, and its notes, say of the link on the line of this number.
+fn refusal_of(
+    alloc: Global,
+    asked: &[Asked],
+    file: &[u8],
+    notes: &[u8],
+    number: u32,
+    told: &[u8],
+) -> Result<Option<Refusal>, Memory>
+    ensures { IfOk result (λ r. r
+        ≡ refusal_of asked.now file.now (trace_lines notes.now) number told.now) }
+{
+    if !begins(told, b"nolink ") || !is_about(asked, number, told) {
         return Ok(None);
     }
     let cause = Items::from_slice(alloc, word_at(told, 3))?;
+    let sides = sides_told(alloc, file, notes, number, told)?;
     Ok(Some(Refusal {
         line: number,
         cause,
+        sides,
     }))
 }
 
-/// What the text of a run says of the links on the lines of these numbers. Takes memory for each
-/// cause; time in proportion to the text.
+/// What the text of a run, and the notes of the run of the script of this name, say of the links on
+/// the lines of these numbers. Takes memory for each cause; time in proportion to the text, and for
+/// each refused link to what is asked for and to the notes.
 pub(crate) fn refusals_of(
     alloc: Global,
+    asked: &[Asked],
+    file: &[u8],
+    notes: &[u8],
     numbers: &[u32],
     run: &[u8],
 ) -> Result<Items<Refusal>, Memory>
-    ensures { IfOk result
-        (λ refused. refused ≡ refusals numbers.now (told_links (trace_lines run.now))) }
+    ensures { IfOk result (λ refused. refused
+        ≡ refusals asked.now file.now (trace_lines notes.now) numbers.now
+        (told_links (trace_lines run.now))) }
 {
     let mut refused = Items::new(alloc);
     let mut rest = numbers;
@@ -119,7 +153,10 @@ pub(crate) fn refusals_of(
         let Some((told, behind)) = next_told(left) else {
             return Ok(refused);
         };
-        push_some(&mut refused, refusal_of(alloc, *number, told)?)?;
+        push_some(
+            &mut refused,
+            refusal_of(alloc, asked, file, notes, *number, told)?,
+        )?;
         rest = more;
         left = behind;
     }

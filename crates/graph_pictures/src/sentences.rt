@@ -1,8 +1,9 @@
 //! Sentences for people.
 ghost use Rattle.std.specs.Prelude.{◌≡◌, ◌++◌, ◌∷◌, [], map, string_bytes, slice_index_or, IfOk, OnOk};
 ghost use Rattle.graph_pictures.specs.Template.{filled};
-ghost use Rattle.graph_pictures.specs.Sentences.{file_word, of_file, of_script, no_node, line_said, of_line};
+ghost use Rattle.graph_pictures.specs.Sentences.{file_word, of_file, of_script, line_said, of_line};
 ghost use Rattle.graph_pictures.specs.Sentences.{of_cycle, of_absent, of_refused, explained};
+ghost use Rattle.graph_pictures.specs.RunSentences.{has_blank, no_such, no_node};
 ghost use Rattle.graph_pictures.specs.UsageSentences.{usage_said, first_said};
 ghost use Rattle.shown_words.specs.Escaping.{escaped};
 
@@ -21,6 +22,9 @@ use word_hints::shell_hint;
 /// The place of a trace.
 const TRACE_PLACE: u32 = u32::MAX;
 
+/// That of notes.
+const NOTES_PLACE: u32 = 3;
+
 // The word at an index: nothing where there is none.
 fn word_at(words: &[String], index: usize) -> &[u8]
     ensures { result.now ≡ slice_index_or (map string_bytes words.now) index [] }
@@ -37,6 +41,8 @@ fn file_word(words: &[String], place: u32) -> &[u8]
 {
     if place == TRACE_PLACE {
         word_at(words, 2)
+    } else if place == NOTES_PLACE {
+        word_at(words, 3)
     } else {
         word_at(words, 1)
     }
@@ -101,13 +107,31 @@ fn put_word(text: &mut Text, words: &[String], index: u32) -> Result<(), Memory>
     put_escaped(text, word_at(words, index as usize))
 }
 
-// That a line is of the run of another script, by a name that this one does not have.
+// Whether a name has a blank: it is the line of a script that asks for a link.
+fn has_blank(name: &[u8]) -> bool
+    ensures { result ≡ has_blank name.now }
+{
+    name.iter().any(|byte| *byte == b' ')
+}
+
+// What another script does not have.
+fn no_such(name: &[u8]) -> &'static [u8]
+    ensures { result.now ≡ no_such name.now }
+{
+    if has_blank(name) {
+        b" has no line "
+    } else {
+        b" has no node "
+    }
+}
+
+// That a line is of the run of another script, by a node or a link that this one does not have.
 fn put_no_node(text: &mut Text, script: &[u8], name: &[u8]) -> Result<(), Memory>
     ensures { OnOk result (text.new ≡ text.old ++ no_node script.now name.now) }
 {
     text.extend(b"the run of another script: ")?;
     put_escaped(text, script)?;
-    text.extend(b" has no node ")?;
+    text.extend(no_such(name))?;
     put_escaped(text, name)?;
     text.extend(b"\n")?;
     Ok(())

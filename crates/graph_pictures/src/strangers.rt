@@ -1,11 +1,14 @@
-//! The node that a line of a run names and its script does not have.
+//! What a line of a run names and its script does not have: a node, or a link.
 ghost use Rattle.std.specs.Prelude.{◌≡◌, ◌-◌, [], IfOk, option_copied, slice_index_or};
 ghost use Rattle.cycle_trace.specs.TraceReading.{trace_lines};
+ghost use Rattle.graph_pictures.specs.Asked.{asked_of};
 ghost use Rattle.graph_pictures.specs.LineWords.{begins, is_of_link, is_of_end, is_of_node};
-ghost use Rattle.graph_pictures.specs.Strangers.{node_part, has_node, missed_at, stranger, stranger_name};
+ghost use Rattle.graph_pictures.specs.Strangers.{node_part, has_node, missed_at, stranger, is_unasked, is_strange, link_asked, stranger_name};
 
+use crate::asked::{Asked, asked_of, is_asked, tells_unlink};
 use crate::refusals::word_at;
 use crate::trace_text::next_line;
+use graph_script::Script;
 use pw_lists::{Items, Memory, Text, next_piece, place_of_name};
 use std::alloc::Global;
 
@@ -71,7 +74,7 @@ fn missed_at<'a>(names: &[Text], line: &'a [u8], index: u32) -> Option<&'a [u8]>
 /// is one: of a link both its nodes are looked at, of an event the first. Takes no memory; time in
 /// proportion to the line and the names.
 #[tactic(auto, unfolding(crate::specs::Strangers::stranger))]
-pub(crate) fn stranger<'a>(names: &[Text], line: &'a [u8]) -> Option<&'a [u8]>
+fn stranger<'a>(names: &[Text], line: &'a [u8]) -> Option<&'a [u8]>
     ensures { option_copied result ≡ stranger names.now line.now }
 {
     if is_of_link(line) {
@@ -88,13 +91,57 @@ pub(crate) fn stranger<'a>(names: &[Text], line: &'a [u8]) -> Option<&'a [u8]>
     }
 }
 
-// Its name; nothing where there is none.
-fn stranger_name(alloc: Global, names: &[Text], line: &[u8]) -> Result<Text, Memory>
-    ensures { IfOk result (λ name. name ≡ stranger_name names.now line.now) }
+// Whether a line is of a link for which no line of the script asks.
+fn is_unasked(asked: &[Asked], line: &[u8]) -> bool
+    ensures { result ≡ is_unasked asked.now line.now }
+{
+    is_of_link(line) && !is_asked(asked, line)
+}
+
+/// Whether a line is of another script's run: it names a node that this one does not have, or a
+/// link for which it does not ask. Takes no memory; time in proportion to the line, the names and
+/// what is asked for.
+pub(crate) fn is_strange(names: &[Text], asked: &[Asked], line: &[u8]) -> bool
+    ensures { result ≡ is_strange names.now asked.now line.now }
+{
+    stranger(names, line).is_some() || is_unasked(asked, line)
+}
+
+// The line of a script that a line of a run with two ends would answer.
+#[tactic(auto, unfolding(crate::specs::Strangers::link_asked))]
+fn link_asked(alloc: Global, line: &[u8]) -> Result<Text, Memory>
+    ensures { IfOk result (λ asked. asked ≡ link_asked line.now) }
+{
+    let word = if tells_unlink(line) {
+        b"unlink ".as_slice()
+    } else {
+        b"link ".as_slice()
+    };
+    let mut asked = Items::from_slice(alloc, word)?;
+    asked.extend(word_at(line, 1))?;
+    asked.extend(b" ")?;
+    asked.extend(word_at(line, 2))?;
+    Ok(asked)
+}
+
+// The name of the node, or that line of a script; nothing where there is no stranger.
+fn stranger_name(
+    alloc: Global,
+    names: &[Text],
+    asked: &[Asked],
+    line: &[u8],
+) -> Result<Text, Memory>
+    ensures { IfOk result (λ name. name ≡ stranger_name names.now asked.now line.now) }
 {
     match stranger(names, line) {
-        None => Ok(Items::new(alloc)),
         Some(name) => Items::from_slice(alloc, name),
+        None => {
+            if is_unasked(asked, line) {
+                link_asked(alloc, line)
+            } else {
+                Ok(Items::new(alloc))
+            }
+        }
     }
 }
 
@@ -115,16 +162,19 @@ fn line_at(text: &[u8], number: u64) -> &[u8]
     }
 }
 
-/// The name of the stranger in the line of this number, counted from 1, of a run's text; nothing
-/// where it has none. Takes memory for the name.
+/// The stranger in the line of this number, counted from 1, of a text of a run: the name of a node
+/// that the script does not have, or the line for a link that it does not have, which has a blank;
+/// nothing where there is none. Takes memory for it and for what the script asks for.
 pub(crate) fn stranger_in(
     alloc: Global,
-    names: &[Text],
+    script: &Script,
     text: &[u8],
     number: u64,
 ) -> Result<Text, Memory>
-    ensures { IfOk result (λ name. name ≡ stranger_name names.now
+    ensures { IfOk result (λ name. name ≡ stranger_name script.now.names (asked_of script.now)
         (slice_index_or (trace_lines text.now) (number - 1) [])) }
 {
-    stranger_name(alloc, names, line_at(text, number))
+    let asked = asked_of(alloc, script)?;
+    let names = script.names.as_slice();
+    stranger_name(alloc, names, asked.as_slice(), line_at(text, number))
 }

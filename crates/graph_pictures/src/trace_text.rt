@@ -2,10 +2,13 @@
 ghost use Rattle.std.specs.Prelude.{◌≡◌, ◌<◌, List, [], ◌∷◌, ◌++◌, length, IfOk, IfErr, IfSome, MatchOption};
 ghost use Rattle.pw_graph.specs.declared.event.Event.{Event};
 ghost use Rattle.cycle_trace.specs.TraceReading.{trace_lines, IsLineOf, IsNoLine, AreNames};
+ghost use Rattle.graph_pictures.specs.Asked.{asked_of};
 ghost use Rattle.graph_pictures.specs.TraceText.{is_passed, IsTrace, IsBadness, Takes};
 
-use crate::strangers::{is_of_end, is_of_link, stranger};
+use crate::asked::{Asked, asked_of};
+use crate::strangers::{is_of_end, is_of_link, is_strange};
 use cycle_trace::{TraceFault, read_events};
+use graph_script::Script;
 use pw_graph::Event;
 use pw_lists::{Items, Memory, Text, next_piece};
 use std::alloc::Global;
@@ -31,11 +34,11 @@ pub(crate) fn next_line(text: &[u8]) -> Option<(&[u8], &[u8])>
     }
 }
 
-// Whether a line says what a run did with nodes that the script has, and no event.
-fn is_passed(names: &Items<Text>, line: &[u8]) -> bool
-    ensures { result ≡ is_passed names.now line.now }
+// Whether a line says what a run did with nodes and links that the script has, and no event.
+fn is_passed(names: &Items<Text>, asked: &[Asked], line: &[u8]) -> bool
+    ensures { result ≡ is_passed names.now asked.now line.now }
 {
-    (is_of_link(line) || is_of_end(line)) && !stranger(names.as_slice(), line).is_some()
+    (is_of_link(line) || is_of_end(line)) && !is_strange(names.as_slice(), asked, line)
 }
 
 // The first of events, if there is one.
@@ -69,14 +72,15 @@ fn read_line(alloc: Global, names: &Items<Text>, line: &[u8]) -> Result<Option<E
 fn take_line(
     alloc: Global,
     names: &Items<Text>,
+    asked: &[Asked],
     line: &[u8],
     events: &mut Items<Event>,
 ) -> Result<bool, Memory>
     requires names { AreNames names.now }
     requires whole { trace_lines (line.now ++ 10 ∷ []) ≡ line.now ∷ [] }
-    ensures { IfOk result (Takes names.now line.now events.old events.new) }
+    ensures { IfOk result (Takes names.now asked.now line.now events.old events.new) }
 {
-    if is_passed(names, line) {
+    if is_passed(names, asked, line) {
         return Ok(true);
     }
     match read_line(alloc, names, line)? {
@@ -88,29 +92,49 @@ fn take_line(
     }
 }
 
-/// The events of a run's text, or of its event lines only: the lines that say what links, sinks
-/// and meters did, of nodes that the script has, are passed over. Or the first line that is
-/// neither, counted from 1.
-///
-/// Takes memory for the events, and for each line; time in proportion to the bytes and the names.
-pub(crate) fn read_run(
+// The events of lines, by the names of nodes and by what a script asks for.
+fn read_lines(
     alloc: Global,
     names: &Items<Text>,
+    asked: &[Asked],
     bytes: &[u8],
 ) -> Result<Items<Event>, TraceFault>
     requires { AreNames names.now }
-    ensures events { IfOk result (IsTrace names.now (trace_lines bytes.now)) }
-    ensures fault { IfErr result (IsBadness names.now (trace_lines bytes.now)) }
+    ensures events { IfOk result (IsTrace names.now asked.now (trace_lines bytes.now)) }
+    ensures fault { IfErr result (IsBadness names.now asked.now (trace_lines bytes.now)) }
 {
     let mut events = Items::new(alloc);
     let mut rest = bytes;
     let mut number: u64 = 1;
     while let Some((line, more)) = next_line(rest) {
-        if !take_line(alloc, names, line, &mut events)? {
+        if !take_line(alloc, names, asked, line, &mut events)? {
             return Err(TraceFault::Line(number));
         }
         rest = more;
         number += 1;
     }
     Ok(events)
+}
+
+/// The events of the text of a script's run, or of its event lines only: the lines that say what
+/// links, sinks and meters did, of nodes and links that the script has, are passed over. Or the
+/// first line that is neither, counted from 1.
+///
+/// Takes memory for the events, for each line and for what the script asks for; time in proportion
+/// to the bytes and the names, and for each line of a link to what is asked for.
+pub(crate) fn read_run(
+    alloc: Global,
+    script: &Script,
+    bytes: &[u8],
+) -> Result<Items<Event>, TraceFault>
+    requires { AreNames script.now.names }
+    ensures events { IfOk result
+        (IsTrace script.now.names (asked_of script.now) (trace_lines bytes.now)) }
+    ensures fault { IfErr result
+        (IsBadness script.now.names (asked_of script.now) (trace_lines bytes.now)) }
+{
+    match asked_of(alloc, script) {
+        Err(Memory) => Err(TraceFault::Memory),
+        Ok(asked) => read_lines(alloc, script.names(), asked.as_slice(), bytes),
+    }
 }

@@ -12,7 +12,7 @@ use word_hints::put_question;
 pub(crate) fn usage_said() -> &'static [u8]
     ensures { result.now ≡ usage_said }
 {
-    b"usage: pipegraph-pictures graph SCRIPT [TRACE] | \
+    b"usage: pipegraph-pictures graph SCRIPT [RUN [NOTES]] | \
       timeline SCRIPT TRACE [FROM TO] [VERDICT] | wave FILE\n\
       version 0.1; the manual: man pipegraph-pictures where it is installed, and \
       man -l docs/pipegraph-pictures.1\n"

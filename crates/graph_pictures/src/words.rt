@@ -2,7 +2,7 @@
 ghost use Rattle.std.specs.Prelude.{◌≡◌, map, string_bytes, Some, Ok, IfOk};
 ghost use Rattle.command_frame.specs.Words.{is_file_word, IsAsked};
 ghost use Rattle.graph_script.specs.Arguments.{number_of};
-ghost use Rattle.graph_pictures.specs.Words.{graph_behind, graph_of, from_first, trace_behind, timeline_behind, timeline_of, wave_of, request_of};
+ghost use Rattle.graph_pictures.specs.Words.{run_behind, graph_behind, graph_of, from_first, trace_behind, timeline_behind, timeline_of, wave_of, request_of};
 ghost use Rattle.graph_pictures.specs.declared.words.Request.TheVariants as R;
 
 use crate::cycles::Cycles;
@@ -12,9 +12,9 @@ use graph_script::number_within;
 use pw_lists::{Items, Memory, Text};
 use std::alloc::Global;
 
-/// What words ask for: a picture of a script's graph, one with what a run of it did, a timeline of
-/// a trace of it or of a range of its cycles, in which an event may be marked, or the peaks of a WAV
-/// file.
+/// What words ask for: a picture of a script's graph, one with what a run of it did, one with the
+/// notes of that run too, a timeline of a trace of it or of a range of its cycles, in which an
+/// event may be marked, or the peaks of a WAV file.
 #[derive(Drop)]
 pub enum Request {
     Graph {
@@ -23,6 +23,11 @@ pub enum Request {
     RunGraph {
         script: Text,
         trace: Text,
+    },
+    NotedGraph {
+        script: Text,
+        trace: Text,
+        notes: Text,
     },
     Timeline {
         script: Text,
@@ -76,6 +81,29 @@ fn run_graph_request(alloc: Global, script: &String, trace: &String) -> Result<R
     }
 }
 
+// The request of a graph with what a run did, and with its notes.
+fn noted_graph_request(
+    alloc: Global,
+    script: &String,
+    trace: &String,
+    notes: &String,
+) -> Result<Request, Misread>
+    ensures { IsAsked (Ok (R.NotedGraph (string_bytes script.now) (string_bytes trace.now)
+        (string_bytes notes.now))) result }
+{
+    match (
+        two_texts(alloc, script, trace),
+        Items::from_slice(alloc, notes.as_bytes()),
+    ) {
+        (Ok((script, trace)), Ok(notes)) => Ok(Request::NotedGraph {
+            script,
+            trace,
+            notes,
+        }),
+        _ => Err(Misread::Memory),
+    }
+}
+
 // The request of a wave.
 fn wave_request(alloc: Global, file: &String) -> Result<Request, Misread>
     ensures { IsAsked (Ok (R.Wave (string_bytes file.now))) result }
@@ -83,6 +111,30 @@ fn wave_request(alloc: Global, file: &String) -> Result<Request, Misread>
     match Items::from_slice(alloc, file.as_bytes()) {
         Ok(file) => Ok(Request::Wave { file }),
         Err(_memory) => Err(Misread::Memory),
+    }
+}
+
+// The words after the trace of a graph.
+fn read_notes(
+    alloc: Global,
+    script: &String,
+    trace: &String,
+    rest: &[String],
+) -> Result<Request, Misread>
+    ensures { IsAsked (run_behind (string_bytes script.now) (string_bytes trace.now)
+        (map string_bytes rest.now)) result }
+{
+    match rest {
+        [] => run_graph_request(alloc, script, trace),
+        [notes, more @ ..] => {
+            if !is_file_word(notes) {
+                Err(Misread::Word(3))
+            } else if more.is_empty() {
+                noted_graph_request(alloc, script, trace, notes)
+            } else {
+                Err(Misread::Word(4))
+            }
+        }
     }
 }
 
@@ -94,12 +146,10 @@ fn read_run(alloc: Global, script: &String, rest: &[String]) -> Result<Request, 
     match rest {
         [] => graph_request(alloc, script),
         [trace, more @ ..] => {
-            if !is_file_word(trace) {
-                Err(Misread::Word(2))
-            } else if more.is_empty() {
-                run_graph_request(alloc, script, trace)
+            if is_file_word(trace) {
+                read_notes(alloc, script, trace, more)
             } else {
-                Err(Misread::Word(3))
+                Err(Misread::Word(2))
             }
         }
     }

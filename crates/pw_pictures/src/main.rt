@@ -1,6 +1,8 @@
 //! `pipegraph-pictures`: the picture that the words ask for, over real files and standard output.
 #![tactic(auto)]
 
+#[cfg(test)]
+mod noted;
 mod program;
 #[cfg(test)]
 mod refused;

@@ -56,6 +56,19 @@ fn a_refusal_has_a_sentence_for_people(rt: HostRuntime) -> Result<(), Fail> {
             "pipegraph-pictures: cannot read t: there is no such file\n",
         ),
         (
+            "graph s t n",
+            Status::Absent { place: 3 },
+            "pipegraph-pictures: cannot read n: there is no such file\n",
+        ),
+        (
+            "graph s t n",
+            Status::Limit {
+                place: 3,
+                which: Which::TraceBytes,
+            },
+            "pipegraph-pictures: cannot read n: it has more than 268435456 bytes\n",
+        ),
+        (
             "graph \u{1b}[1m",
             Status::ReadFault { place: 0 },
             "pipegraph-pictures: cannot read \\x1b[1m: the system refuses it\n",
@@ -92,7 +105,7 @@ fn a_refusal_has_a_sentence_for_people(rt: HostRuntime) -> Result<(), Fail> {
 
 // The forms of the commands, the version, and where the manual is.
 const FORMS: &str =
-    "usage: pipegraph-pictures graph SCRIPT [TRACE] | timeline SCRIPT TRACE [FROM TO] [VERDICT] | wave FILE\n\
+    "usage: pipegraph-pictures graph SCRIPT [RUN [NOTES]] | timeline SCRIPT TRACE [FROM TO] [VERDICT] | wave FILE\n\
     version 0.1; the manual: man pipegraph-pictures where it is installed, and \
     man -l docs/pipegraph-pictures.1\n";
 

@@ -239,10 +239,21 @@ fn expect_end_of<R: AllocGlobal + Abort>(
     trace: &[u8],
     wanted: &[u8],
 ) -> Result<(), Memory> {
+    expect_end_with(rt, line, TWO, trace, wanted)
+}
+
+// What the words of a line print of a script and this trace ends so.
+fn expect_end_with<R: AllocGlobal + Abort>(
+    rt: &R,
+    line: &str,
+    script: &str,
+    trace: &[u8],
+    wanted: &[u8],
+) -> Result<(), Memory> {
     let alloc = rt.alloc();
     let words = words_of(alloc, line)?;
     let mut files = SureFiles::new(alloc)?;
-    files.add_file(alloc, &text(alloc, "s")?, TWO.as_bytes())?;
+    files.add_file(alloc, &text(alloc, "s")?, script.as_bytes())?;
     files.add_file(alloc, &text(alloc, "t")?, trace)?;
     let (mut out, mut stranger) = (SureSink::new(alloc)?, Items::new(alloc));
     let ended = print_picture(alloc, words.as_slice(), &mut files, &mut out, &mut stranger);
@@ -383,6 +394,9 @@ fn a_band_says_which_cycle_goes_on(rt: HostRuntime) -> Result<(), Fail> {
 
 #[test]
 fn the_whole_text_of_a_run_is_a_trace(rt: HostRuntime) -> Result<(), Fail> {
+    let script =
+        "quantum 4\nsquare a 48000 1 4 9\nsink o o.wav\nlink a.out o.in\nunlink a.out o.in\n\
+        cycles 2\n";
     let run = b"link a.out o.in 48000 1 2\nnolink a.out o.in loop\nunlink a.out o.in\n\
         nounlink a.out o.in\nbegin 5\ntick 5 dummy\nwrote o 4\npeak a 9\nunused o\n";
     let wanted = b"<path class='t' d='M8 14v4'/>\n\
@@ -392,7 +406,7 @@ fn the_whole_text_of_a_run_is_a_trace(rt: HostRuntime) -> Result<(), Fail> {
         <use xlink:href='#rows'/><svg x='120' width='24' height='44' viewBox='0 0 24 44'>\
         <use xlink:href='#strip'/></svg><text x='127' y='12'>5</text></g>\n\
         </svg>\n";
-    expect_end(&rt, run, wanted)?;
+    expect_end_with(&rt, "timeline s t", script, run, wanted)?;
     Ok(())
 }
 
@@ -470,6 +484,30 @@ fn the_run_of_another_script_is_told_by_a_node(rt: HostRuntime) -> Result<(), Fa
         refuses_trace(&rt, "graph s t", trace, &out, &said)?;
         refuses_trace(&rt, "timeline s t", trace, &out, &said)?;
     }
+    // Nodes that both have, and a link for which only the other asks.
+    let table = [
+        ("link o.in a.out 48000 1 2\n", 1, "link o.in a.out"),
+        (
+            "link a.out o.in 48000 1 2\nnolink a.left o.in 65539\n",
+            2,
+            "link a.left o.in",
+        ),
+        ("nolink a.out o.b twice\n", 1, "link a.out o.b"),
+        ("link a o\n", 1, "link a o"),
+        ("link  a.out  o.out\n", 1, "link a.out o.out"),
+        ("nolink a.out\n", 1, "link a.out "),
+        ("unlink a.out o.in\n", 1, "unlink a.out o.in"),
+        ("nounlink a.out o.in\n", 1, "unlink a.out o.in"),
+    ];
+    for (trace, number, link) in table {
+        let alloc = rt.alloc();
+        let out = format!(in alloc; "line {number}\n")?;
+        let said = format!(in alloc;
+            "pipegraph-pictures: t:{number}: the run of another script: s has no line {link}\n"
+        )?;
+        refuses_trace(&rt, "graph s t", trace, &out, &said)?;
+        refuses_trace(&rt, "timeline s t", trace, &out, &said)?;
+    }
     let rows = [
         ("start 00 a\n", 1),
         ("begin 0\ntick 0 a b\n", 2),
@@ -495,7 +533,8 @@ fn words_and_files_are_refused_by_cause(rt: HostRuntime) -> Result<(), Fail> {
         ("graph", usage(1), "usage 1\n"),
         ("graph -s", usage(1), "usage 1\n"),
         ("graph s -t", usage(2), "usage 2\n"),
-        ("graph s t u", usage(3), "usage 3\n"),
+        ("graph s t -u", usage(3), "usage 3\n"),
+        ("graph s t u v", usage(4), "usage 4\n"),
         ("timeline", usage(1), "usage 1\n"),
         ("timeline s", usage(2), "usage 2\n"),
         ("timeline s -t", usage(2), "usage 2\n"),
@@ -522,6 +561,7 @@ fn words_and_files_are_refused_by_cause(rt: HostRuntime) -> Result<(), Fail> {
             Status::Absent { place: 4294967295 },
             "absent 4294967295\n",
         ),
+        ("graph s t u", Status::Absent { place: 3 }, "absent 3\n"),
         ("wave u", Status::Absent { place: 1 }, "absent 1\n"),
         (
             "timeline s u",

@@ -12,7 +12,7 @@ invariant-loop-rest l = record {
   unlinks : l.unlinks ++ filter_map (λ x. unlink_at x.line x.command) l.rest ≡ filter_map (λ x. unlink_at x.line x.command) l.lines;
   placed : l.placed ≡ filter_map (λ x. placed_by x.command) l.lines;
   joined : l.joined ≡ filter_map (λ x. joined_by x.command) l.lines;
-  refused : l.refused ≡ refusals (link_numbers l.lines) (told_links (trace_lines l.run));
+  refused : l.refused ≡ refusals l.asked l.file (trace_lines l.notes) (link_numbers l.lines) (told_links (trace_lines l.run));
 }
 
 abbrev pub decreases-loop-rest : goal.decreases-loop-rest

@@ -1,8 +1,5 @@
-use Rattle.std.proofs.Common.{sym, subst}
-use Rattle.cycle_trace.specs.TraceReading.{AreNames}
 use Rattle.graph_pictures.proofs.AnswerLemmas.{script_names}
 use Rattle.graph_pictures.proofs.reading.drawn_run.Goals as goal
 
 pub read_run-requires : goal.read_run-requires
-read_run-requires c =
-    subst AreNames (sym c.names.ensures) (script_names c.args.script.now c.requires)
+read_run-requires c = script_names c.args.script.now c.requires

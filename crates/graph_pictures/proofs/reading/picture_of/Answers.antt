@@ -15,6 +15,11 @@ returns-in-RunGraph-clause-told g c = λ h.
     subst (λ q. Ends statuses (IsPicture c.read_run_graph.new.stranger q (names_in (g.F.Files.held c.args.files.now))) c.read_run_graph.result) (sym c.in-RunGraph.is)
     (c.read_run_graph.ensures.told h)
 
+pub returns-in-NotedGraph-clause-told : goal.returns-in-NotedGraph-clause-told
+returns-in-NotedGraph-clause-told g c = λ h.
+    subst (λ q. Ends statuses (IsPicture c.read_noted_graph.new.stranger q (names_in (g.F.Files.held c.args.files.now))) c.read_noted_graph.result) (sym c.in-NotedGraph.is)
+    (c.read_noted_graph.ensures.told h)
+
 pub returns-in-Timeline-clause-told : goal.returns-in-Timeline-clause-told
 returns-in-Timeline-clause-told g c = λ h.
     subst (λ q. Ends statuses (IsPicture c.read_timeline.new.stranger q (names_in (g.F.Files.held c.args.files.now))) c.read_timeline.result) (sym c.in-Timeline.is)
