@@ -16,6 +16,7 @@ _pipegraph_pictures() {
         esac
         ;;
     3) [[ ${COMP_WORDS[1]} == wave ]] || _pipegraph_pictures_files "" "$word" ;;
+    4) [[ ${COMP_WORDS[1]} == graph ]] && _pipegraph_pictures_files "" "$word" ;;
     esac
 }
 

@@ -362,6 +362,8 @@ def of_pictures(place, numbers):
              "long.txt: it has more than 268435456 bytes"),
             (["timeline", "fine.graph", "long.txt"], TRACE, "TraceBytes",
              "long.txt: it has more than 268435456 bytes"),
+            (["graph", "fine.graph", "fine.graph", "long.txt"], 3, "TraceBytes",
+             "long.txt: it has more than 268435456 bytes"),
             (["wave", "wide.wav"], 1, "WavBytes", "wide.wav: it has more than 268435456 bytes")]:
         refused(place, words, 8, f"limit {at} {numbers.get(name)}", f"cannot read {said}", PICTURES)
 

@@ -1,6 +1,7 @@
-"""Notes on what was accepted, only by standard error."""
+"""Notes on what was accepted, only by standard error; and what pipegraph-pictures draws of them."""
 import os
 
+from asking import PICTURES, PODS
 from messages import told
 from worked import choice, number, thing, wav
 
@@ -48,6 +49,14 @@ LINKS = [
      [(5, '"o.wav" is written by a later sink too; a regular file keeps what is written last'),
       (9, '"m" had no format at the end, so it has no peak'),
       (10, '"p" had no format at the end, so it does not write "p.wav"')])]
+
+# Lines after START, and below the cause of each refused link what both sides admit; nothing where no
+# key is the cause.
+SIDES = [
+    ("link a.out o.in\nlink b.out o.in\nlink c.out o.in\n", ["44100 and 48000", "2 and 1"]),
+    ("offer o in rates.pod\nlink a.out o.in\nlink b.out o.in\n", ["48000 and 8000 or 32000 or 44100"]),
+    ("link a.out o.in\nlink a.out o.in\nlink g.out g.in\n", ["", ""]),
+    ("link a.out o.in\nlink a.out g.in\n", [])]
 
 EMPTY = "has no frames, so what it writes to"
 NEVER = "it was active in no cycle since it got its format"
@@ -105,6 +114,28 @@ def links(place):
                            told(place, ["run", "some.graph"], errors_to=to)[:2])
         place.same(f"{lines} without one", (0, out),
                    told(place, ["run", "some.graph"], closed=[2])[:2])
+
+
+def drawn(place):
+    """What pipegraph-pictures reads of the notes of a run, as pipegraph writes them."""
+    for name in ["some.graph", "odd\x1b\\ .graph"]:
+        told(place, ["format", "rates.pod", "rate", "8000|32000|44100"], of=PODS)
+        for lines, sides in SIDES:
+            place.file(name, START + lines + "cycles 2\n")
+            _, text, errors = told(place, ["run", name])
+            place.file("some.text", text)
+            place.file("some.notes", errors)
+            graph = ["graph", name, "some.text"]
+            _, bare, _ = told(place, graph, of=PICTURES)
+            status, dot, _ = told(place, [*graph, "some.notes"], of=PICTURES)
+            labels = [line.split(b'label="')[1][:-3].split(b"\\n", 1) for line in dot.splitlines() if b"plaintext" in line]
+            place.same(f"sides of {lines}", (0, sides),
+                       (status, [b"".join(label[1:]).decode() for label in labels]))
+            for notes in ["", text, errors.replace(b"some", b"same").replace(b"odd", b"add"),
+                          errors.replace(b"pipegraph: ", b"pipegraph:")]:
+                place.file("some.notes", notes)
+                place.same(f"other notes of {lines}", (0, bare),
+                           told(place, [*graph, "some.notes"], of=PICTURES)[:2])
 
 
 def others(place):

@@ -80,7 +80,8 @@ def helps(place):
         place.expect(f"pipegraph-pods {words}", words, 1, of=PODS)
     for words, line in [(["play"], "usage 0\n"), (["graph"], "usage 1\n"),
                         (["graph", "-a"], "usage 1\n"),
-                        (["graph", "a", "b", "c"], "usage 3\n"), (["timeline", "a"], "usage 2\n"),
+                        (["graph", "a", "b", "-c"], "usage 3\n"),
+                        (["graph", "a", "b", "c", "d"], "usage 4\n"), (["timeline", "a"], "usage 2\n"),
                         (["timeline", "a", "b", "-1", "2"], "usage 3\n"),
                         (["timeline", "a", "b", "1"], "usage 4\n"),
                         (["timeline", "a", "b", "2", "1"], "usage 4\n"),
