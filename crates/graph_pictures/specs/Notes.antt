@@ -10,9 +10,15 @@ use Rattle.shown_words.specs.Escaping.{escaped}
 use Rattle.graph_pictures.specs.LineWords.{begins}
 
 -- how the note begins on the link that a line of the script of this name asks for, by its ends
-unfoldable pub note_start : List ℕ → ℕ → List ℕ → List ℕ → List ℕ
-note_start file line from to = codes "pipegraph: " ++ (escaped file ++ (codes ":" ++ (decimal line
-    ++ (codes ": \"" ++ (from ++ (codes "\" to \"" ++ (to ++ codes "\" is no link: ")))))))
+unfoldable pub note_place : List ℕ → ℕ → List ℕ
+note_place file line =
+    codes "pipegraph: " ++ (escaped file ++ (codes ":" ++ (decimal line ++ codes ": \"")))
+
+unfoldable pub note_ends : List ℕ → List ℕ → List ℕ
+note_ends from to = from ++ (codes "\" to \"" ++ (to ++ codes "\" is no link: "))
+
+abbrev pub note_start : List ℕ → ℕ → List ℕ → List ℕ → List ℕ
+note_start file line from to = note_place file line ++ note_ends from to
 
 -- what is behind a beginning; nothing of a text that begins otherwise
 abbrev pub behind : List ℕ → List ℕ → List ℕ

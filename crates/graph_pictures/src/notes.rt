@@ -2,7 +2,7 @@
 ghost use Rattle.std.specs.Prelude.{◌≡◌, find, option_copied, IfOk};
 ghost use Rattle.cycle_trace.specs.TraceReading.{trace_lines};
 ghost use Rattle.graph_pictures.specs.LineWords.{begins};
-ghost use Rattle.graph_pictures.specs.Notes.{note_start, behind, first_with, piece, key_start, sides_in, sides_of};
+ghost use Rattle.graph_pictures.specs.Notes.{note_place, note_ends, note_start, behind, first_with, piece, key_start, sides_in, sides_of};
 
 use crate::strangers::begins;
 use crate::trace_text::next_line;
@@ -10,20 +10,37 @@ use pw_lists::{Items, Memory, Text, append_decimal, next_piece};
 use shown_words::put_escaped;
 use std::alloc::Global;
 
+// How a note begins on a line of a script of this name, up to the first end of a link.
+#[tactic(auto, unfolding(crate::specs::Notes::note_place))]
+fn note_place(alloc: Global, file: &[u8], line: u32) -> Result<Text, Memory>
+    ensures { IfOk result (λ place. place ≡ note_place file.now line) }
+{
+    let mut place = Items::from_slice(alloc, b"pipegraph: ")?;
+    put_escaped(&mut place, file)?;
+    place.extend(b":")?;
+    append_decimal(&mut place, u64::from(line))?;
+    place.extend(b": \"")?;
+    Ok(place)
+}
+
+// How it goes on with the two ends.
+#[tactic(auto, unfolding(crate::specs::Notes::note_ends))]
+fn note_ends(alloc: Global, from: &[u8], to: &[u8]) -> Result<Text, Memory>
+    ensures { IfOk result (λ ends. ends ≡ note_ends from.now to.now) }
+{
+    let mut ends = Items::from_slice(alloc, from)?;
+    ends.extend(b"\" to \"")?;
+    ends.extend(to)?;
+    ends.extend(b"\" is no link: ")?;
+    Ok(ends)
+}
+
 // How the note begins on the link that a line of a script asks for.
-#[tactic(auto, unfolding(crate::specs::Notes::note_start))]
 fn note_start(alloc: Global, file: &[u8], line: u32, from: &[u8], to: &[u8]) -> Result<Text, Memory>
     ensures { IfOk result (λ start. start ≡ note_start file.now line from.now to.now) }
 {
-    let mut start = Items::from_slice(alloc, b"pipegraph: ")?;
-    put_escaped(&mut start, file)?;
-    start.extend(b":")?;
-    append_decimal(&mut start, u64::from(line))?;
-    start.extend(b": \"")?;
-    start.extend(from)?;
-    start.extend(b"\" to \"")?;
-    start.extend(to)?;
-    start.extend(b"\" is no link: ")?;
+    let mut start = note_place(alloc, file, line)?;
+    start.extend(note_ends(alloc, from, to)?.as_slice())?;
     Ok(start)
 }
 
