@@ -40,7 +40,7 @@ module _ {T U : Type 0} (First : Expected Status T → Type 0) (Makes : T → Re
       (part_quiet statuses [] (Makes x) Has r (subst (λ (y : T). Makes y r) same made) cause)
 
 -- what is read after something else, from files that hold the same
-module _ {T U : Type 0} (First : Names → Expected Status T) (Then : Names → T → Expected Status U) where
+module _ {T U : Type 0} (First : Names → Expected Status T → Type 0) (Then : Names → T → Expected Status U → Type 0) where
   pub first_stops : (names : Names) (status : Status) → Ends statuses (First names) (Err status)
       → Ends statuses (Binds statuses (First names) (Then names)) (Err status)
   first_stops names status h = binds_stops statuses (First names) (Then names) status h
