@@ -119,7 +119,7 @@ def links(place):
 def drawn(place):
     """What pipegraph-pictures reads of the notes of a run, as pipegraph writes them."""
     for name in ["some.graph", "odd\x1b\\ .graph"]:
-        told(place, ["format", "rates.pod", "rate", "8000|32000|44100"], of=PODS)
+        told(place, ["format", "rates.pod", "rate", "8000|32000|44100", "channels", "1..2"], of=PODS)
         for lines, sides in SIDES:
             place.file(name, START + lines + "cycles 2\n")
             _, text, errors = told(place, ["run", name])
