@@ -21,6 +21,7 @@ pub mod RoomLemmas
 pub mod LoopLemmas
 pub mod PoolCountLemmas
 pub mod StartLemmas
+pub mod DraftLemmas
 pub mod EpochLemmas
 pub mod DrivingLemmas
 pub mod LoopDriverLemmas

@@ -2,7 +2,6 @@ pub mod OwnPools
 pub mod PlanPools
 pub mod turns
 pub mod Gathering
-pub mod Dealt
 pub mod Members
 pub mod Rooms
 pub mod EpochStates
@@ -17,6 +16,7 @@ pub mod Tables
 pub mod Loops
 pub mod LoopsOnBoards
 pub mod LoopStart
+pub mod Drafts
 pub mod Driving
 pub mod LoopDriver
 pub mod LoopKept

@@ -1,3 +1,4 @@
+pub mod Dealt
 -- How a turn on links and on pools goes on, and what a loop passes on. Source: this project's own.
 pub mod Inputs
 pub mod Giving

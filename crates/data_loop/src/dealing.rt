@@ -2,7 +2,7 @@
 ghost use Rattle.std.specs.Prelude.{◌≡◌, ◌<◌, ◌≤◌, [], ℕ, List, IfOk, length, slice_index_or};
 ghost use Rattle.pw_lists.specs.Limits.{links_limit};
 ghost use Rattle.data_loop.specs.declared.inputs.Input.{Input};
-ghost use Rattle.data_loop.specs.Dealt.{AreDealt};
+ghost use Rattle.data_loop.specs.working.Dealt.{AreDealt};
 
 use crate::inputs::Input;
 use pw_graph::{NODES, Shape};

@@ -1,10 +1,10 @@
-//! What a loop has in each epoch, made before the first one begins.
+//! What a loop has in an epoch, made before the first one begins.
 ghost use Rattle.std.specs.Prelude.{◌≡◌, ◌<◌, ◌≤◌, ◌^◌, IfOk, length, map};
 ghost use Rattle.pw_lists.specs.Limits.{nodes_limit};
 ghost use Rattle.pw_graph.specs.SoundPlan.{IsSoundPlan};
 ghost use Rattle.node_progress.specs.Restarts.{restart_of};
 ghost use Rattle.data_loop.specs.PlanPools.{pools_in};
-ghost use Rattle.data_loop.specs.EpochStateParts.{IsFirstEpochState, AreFirstEpochStates};
+ghost use Rattle.data_loop.specs.EpochStateParts.{IsFirstEpochState};
 
 use crate::epoch_state::EpochState;
 use crate::guesses::guesses_of;
@@ -36,8 +36,9 @@ fn restarts_of(
     Ok(restarts)
 }
 
-// What the loop of these nodes has in an epoch, with its seat there.
-fn epoch_state_of(
+/// What the loop of these nodes has in an epoch, with its seat there. `pools` are those of each
+/// epoch.
+pub(crate) fn epoch_state_of(
     alloc: Global,
     plan: &Plan,
     nodes: &[u32],
@@ -67,29 +68,4 @@ fn epoch_state_of(
         own,
         progress: Progress { least: 0, from: 0 },
     })
-}
-
-/// What the loop of these nodes has in each epoch, with its seats, one an epoch. `pools` are those
-/// of each epoch.
-pub(crate) fn epoch_states_of(
-    alloc: Global,
-    plan: &Plan,
-    nodes: &[u32],
-    pools: &[Items<PoolShape>],
-    seats: Items<LoopSeat>,
-) -> Result<Items<EpochState>, Memory>
-    requires sound { IsSoundPlan plan.now }
-    requires few { length nodes.now ≤ nodes_limit }
-    requires pools { pools.now ≡ pools_in plan.now }
-    requires count { length seats ≡ length plan.now.epochs }
-    ensures { IfOk result (AreFirstEpochStates plan.now nodes.now seats) }
-{
-    let mut epoch_states = Items::new(alloc);
-    epoch_states.reserve(seats.len())?;
-    let mut epoch = 0;
-    for seat in seats.into_vec() {
-        epoch_states.push(epoch_state_of(alloc, plan, nodes, epoch, pools, seat)?)?;
-        epoch += 1;
-    }
-    Ok(epoch_states)
 }

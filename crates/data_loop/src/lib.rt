@@ -6,6 +6,7 @@
 
 mod dealing;
 mod did;
+mod draft;
 mod driving;
 mod epoch_context;
 mod epoch_state;
@@ -35,6 +36,7 @@ mod tried;
 mod turn_context;
 
 pub use did::Did;
+pub use draft::LoopDraft;
 pub use driving::pass_driver;
 pub use loop_state::LoopState;
 pub use plan_pools::pools_in;

@@ -1,13 +1,14 @@
 //! One loop of a run.
-ghost use Rattle.std.specs.Prelude.{◌≡◌, ◌<◌, AllPairs, All, IfOk, length};
+ghost use Rattle.std.specs.Prelude.{◌≡◌, ◌<◌, AllPairs, All, IfOk, length, map};
 ghost use Rattle.pw_graph.specs.SoundPlan.{IsSoundPlan};
 ghost use Rattle.cycle_model.specs.WavesFit.{WavesFit};
+ghost use Rattle.data_loop.specs.EpochStateParts.{AreFirstEpochStates};
 ghost use Rattle.data_loop.specs.Loops.{IsBetweenEpochs};
 ghost use Rattle.data_loop.specs.LoopStart.{AreFirstStates, IsLoopOf};
 ghost use Rattle.data_loop.specs.PlanPools.{pools_in};
 
+use crate::draft::LoopDraft;
 use crate::epoch_state::EpochState;
-use crate::epoch_states::epoch_states_of;
 use crate::plan_pools::pools_in;
 use crate::rooms::{rows_of, widest_of};
 use crate::rows::Rows;
@@ -123,13 +124,38 @@ impl LoopState {
         ensures of { IfOk result (IsLoopOf plan.now waves.now nodes.now seats) }
         ensures woke { IfOk result (λ s. s.woke ≡ 0) }
     {
+        let mut draft = LoopDraft::new(alloc, nodes.copy(alloc)?, seats)?;
+        for _ in 0..plan.epochs.len() {
+            draft.add_epoch(alloc, plan, pools)?;
+        }
+        draft.finish(alloc, plan, waves)
+    }
+
+    // The loop of these nodes, with what it has in each epoch.
+    pub(crate) fn of_epochs(
+        alloc: Global,
+        plan: &Plan,
+        waves: &Items<WavIn>,
+        nodes: Items<u32>,
+        epoch_states: Items<EpochState>,
+    ) -> Result<LoopState, Memory>
+        requires sound { IsSoundPlan plan.now }
+        requires waves { WavesFit plan.now waves.now }
+        requires nodes { AllPairs (λ m n. m < n) nodes }
+        requires places { All (λ n. n < length plan.now.nodes) nodes }
+        requires made { AreFirstEpochStates plan.now nodes
+            (map (λ g. g.seat) epoch_states) epoch_states }
+        requires count { length epoch_states ≡ length plan.now.epochs }
+        ensures between { IfOk result IsBetweenEpochs }
+        ensures of { IfOk result (IsLoopOf plan.now waves.now nodes
+            (map (λ g. g.seat) epoch_states)) }
+        ensures woke { IfOk result (λ s. s.woke ≡ 0) }
+    {
         let run_model = RunModel::of(plan, waves);
-        let epoch_states = epoch_states_of(alloc, plan, nodes.as_slice(), pools, seats)?;
         let states = states_of(alloc, &run_model, plan, waves, nodes.as_slice())?;
         let rows = rows_of(alloc, widest_of(epoch_states.as_slice()))?;
         let found = room_for(alloc, nodes.len())?;
         let tables = tables_of(alloc, nodes.len())?;
-        let nodes = nodes.copy(alloc)?;
         Ok(LoopState {
             run_model,
             nodes,

@@ -7,7 +7,7 @@ ghost use Rattle.pw_graph.specs.PlanForms.{kind_at};
 ghost use Rattle.pw_graph.specs.Pools.{pools_of, is_same_port};
 ghost use Rattle.cycle_model.specs.Epochs.{channels_of};
 ghost use Rattle.data_loop.specs.turns.Ends.{fills_of};
-ghost use Rattle.data_loop.specs.Dealt.{AreDealt};
+ghost use Rattle.data_loop.specs.working.Dealt.{AreDealt};
 ghost use Rattle.data_loop.specs.Gathering.{inputs_of};
 ghost use Rattle.data_loop.specs.Members.{input_width, is_read, output_width, member_of, has_role, members_by};
 

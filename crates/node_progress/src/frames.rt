@@ -31,9 +31,7 @@ fn has_form(epoch: &Epoch, node: u32) -> bool
 pub fn works_in(epoch: &Epoch, node: u32) -> bool
     ensures { result ≡ works_in epoch.now node }
 {
-    let formed = has_form(epoch, node);
-    let drives = epoch.shape.driver == node;
-    takes_part(epoch, node) && (!drives || formed)
+    takes_part(epoch, node) && (epoch.shape.driver != node || has_form(epoch, node))
 }
 
 /// In how many cycles of the whole run the node works. Takes no memory; a look at the nodes and
