@@ -14,7 +14,7 @@ use Rattle.board_rule.specs.Known.{Known}
 use Rattle.board_rule.specs.events.Closing.{expected}
 use Rattle.graph_run.specs.Closing.{HasEnded}
 
-all_zip_append : {A B : Type 0} (R : A → B → Type 0) (xs us : List A) (ys vs : List B) → AllZip R xs ys → AllZip R us vs
+pub all_zip_append : {A B : Type 0} (R : A → B → Type 0) (xs us : List A) (ys vs : List B) → AllZip R xs ys → AllZip R us vs
     → AllZip R (xs ++ us) (ys ++ vs)
 all_zip_append R [] us [] vs first second = second
 all_zip_append R [] us (y ∷ ys) vs first second = absurd first

@@ -4,6 +4,7 @@ pub mod DealLemmas
 pub mod RowLemmas
 pub mod ClosingLemmas
 pub mod LoopLemmas
+pub mod DraftLemmas
 pub mod EpochLemmas
 pub mod ReadyLemmas
 pub mod OutcomesLemmas

@@ -1,41 +1,84 @@
 //! The loops of a run.
 ghost use Rattle.std.specs.Prelude.{◌≡◌, ◌≤◌, ◌+◌, All, IfOk, length, map};
+ghost use Rattle.std.specs.List.{AllZip};
+ghost use Rattle.pw_lists.specs.Limits.{nodes_limit};
 ghost use Rattle.pw_graph.specs.SoundPlan.{IsSoundPlan};
 ghost use Rattle.cycle_model.specs.WavesFit.{WavesFit};
-ghost use Rattle.data_loop.specs.LoopStart.{IsLoopOf};
+ghost use Rattle.data_loop.specs.Drafts.{HasAll, LacksEpochs};
 ghost use Rattle.data_loop.specs.Loops.{IsBetweenEpochs};
 ghost use Rattle.data_loop.specs.PlanPools.{pools_in};
 ghost use Rattle.graph_run.specs.Loops.{AreLoopsOf, AreReadyOnBoards};
-ghost use Rattle.graph_run.specs.Seating.{IsSeatingOf, holder_of, nodes_of_loop};
+ghost use Rattle.graph_run.specs.Seating.{IsSeatingOf, holder_of};
+ghost use Rattle.graph_run.specs.working.Drafts.{AreDrafts, AreGrown, IsLoopFrom};
 
 use crate::seating::{Seating, nodes_of_loop};
 use board_rule::LoopSeat;
-use data_loop::{LoopState, pools_in};
+use data_loop::{LoopDraft, LoopState, pools_in};
 use pw_graph::{Plan, PoolShape};
 use pw_lists::{Items, Memory, Room};
 use std::alloc::Global;
 use wav_files::WavIn;
 
-// One loop of a plan, with the pools of each epoch, and its seats, one an epoch.
-fn loop_with(
+// The loops of a plan without an epoch, in the order of their seats.
+fn drafts_of(
+    alloc: Global,
+    plan: &Plan,
+    seating: &Seating,
+    seats: Vec<Room<LoopSeat>>,
+) -> Result<Vec<LoopDraft>, Memory>
+    requires few { length plan.now.nodes ≤ nodes_limit }
+    requires seating { IsSeatingOf plan.now seating.now }
+    requires count { length seats.items ≡ seating.now.loops + 1 }
+    ensures { IfOk result (λ drafts. AreDrafts plan.now (holder_of seating.now)
+        (map (λ row. row.list) seats.items) 0 drafts.items) }
+{
+    let mut drafts = Items::new(alloc);
+    let mut which = 0;
+    for row in seats {
+        let nodes = nodes_of_loop(alloc, plan, seating, which)?;
+        drafts.push(LoopDraft::new(alloc, nodes, row.into_items())?)?;
+        which += 1;
+    }
+    Ok(drafts.into_vec())
+}
+
+// Adds the next epoch to each loop.
+fn add_epoch(
+    alloc: Global,
+    plan: &Plan,
+    pools: &[Items<PoolShape>],
+    drafts: &mut Vec<LoopDraft>,
+) -> Result<(), Memory>
+    requires sound { IsSoundPlan plan.now }
+    requires pools { pools.now ≡ pools_in plan.now }
+    requires lack { All (LacksEpochs plan.now) drafts.old.items }
+    ensures { IfOk result (λ _. AreGrown plan.now (length drafts.old.items) drafts.old.items
+        drafts.new.items) }
+{
+    for i in 0..drafts.len() {
+        drafts[i].add_epoch(alloc, plan, pools)?;
+    }
+    Ok(())
+}
+
+// The loops that have all epochs.
+fn finish_all(
     alloc: Global,
     plan: &Plan,
     waves: &Items<WavIn>,
-    seating: &Seating,
-    which: u32,
-    pools: &[Items<PoolShape>],
-    seats: Items<LoopSeat>,
-) -> Result<LoopState, Memory>
+    drafts: Vec<LoopDraft>,
+) -> Result<Items<LoopState>, Memory>
     requires sound { IsSoundPlan plan.now }
     requires fit { WavesFit plan.now waves.now }
-    requires pools { pools.now ≡ pools_in plan.now }
-    requires seats { length seats ≡ length plan.now.epochs }
-    ensures between { IfOk result IsBetweenEpochs }
-    ensures of { IfOk result (IsLoopOf plan.now waves.now
-        (nodes_of_loop (holder_of seating.now) plan.now which) seats) }
+    requires all { All (HasAll plan.now) drafts.items }
+    ensures between { IfOk result (All IsBetweenEpochs) }
+    ensures of { IfOk result (AllZip (IsLoopFrom plan.now waves.now) drafts.items) }
 {
-    let nodes = nodes_of_loop(alloc, plan, seating, which)?;
-    LoopState::with_pools(alloc, plan, waves, &nodes, pools, seats)
+    let mut states = Items::new(alloc);
+    for draft in drafts {
+        states.push(draft.finish(alloc, plan, waves)?)?;
+    }
+    Ok(states)
 }
 
 /// The loops of a plan before the first epoch, in the order of their seats, and last the driver's
@@ -93,12 +136,10 @@ pub fn loops_with_pools(
     ensures ready { IfOk result
         (AreReadyOnBoards plan.now waves.now seating.now (map (λ row. row.list) seats.items)) }
 {
-    let mut states = Items::new(alloc);
-    let mut which = 0;
-    for row in seats {
-        let seats = row.into_items();
-        states.push(loop_with(alloc, plan, waves, seating, which, pools, seats)?)?;
-        which += 1;
+    let mut drafts = drafts_of(alloc, plan, seating, seats)?;
+    for _ in 0..plan.epochs.len() {
+        add_epoch(alloc, plan, pools, &mut drafts)?;
     }
+    let states = finish_all(alloc, plan, waves, drafts)?;
     Ok(states)
 }
