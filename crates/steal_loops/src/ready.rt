@@ -12,8 +12,9 @@ use pw_outside::Gate;
 use std::sync::Wait;
 
 /// Visits the cell of a node whose sign this thread took, or that it kept: `hint` says which. The
-/// sign is set again where the node may still be ready. Whether the visit did something. It may
-/// wait where it sends. Takes no memory.
+/// sign is set again where the node may still be ready. The next look begins behind the node, so
+/// that a sign that is set again hides no other. Whether the visit did something. It may wait
+/// where it sends. Takes no memory.
 pub(crate) fn visit_signed<R: Wait, G: Gate>(
     rt: &R,
     gate: &G,
@@ -37,7 +38,7 @@ pub(crate) fn visit_signed<R: Wait, G: Gate>(
     if leaves_ready(found) {
         shared.signs.set_again(node);
     }
-    claimant.node = node;
+    claimant.node = node.wrapping_add(1);
     has_done(found)
 }
 

@@ -114,13 +114,26 @@ impl Signs {
         word.load(Ordering::SeqCst) & bit != 0 && word.fetch_and(!bit, Ordering::SeqCst) & bit != 0
     }
 
-    /// Takes some sign away, that of the first node from `from` on, and after the last from 0 on:
-    /// the node. None where there is none, or another thread was faster.
-    pub(crate) fn take_next(&self, from: u32) -> Option<u32> {
+    // The first node with a sign from `from` on, and after the last from 0 on, if there is one.
+    fn first_from(&self, from: u32) -> Option<u32> {
         let word: &AtomicU64 = &self.word;
         let from = from % 64;
         let ahead = least_of(word.load(Ordering::SeqCst).rotate_right(from))?;
-        let node = from.wrapping_add(ahead) % 64;
-        if self.take(node) { Some(node) } else { None }
+        Some(from.wrapping_add(ahead) % 64)
+    }
+
+    /// Takes some sign away, that of the first node from `from` on, and after the last from 0 on:
+    /// the node. Where another thread was faster it goes on behind that node. None where there is
+    /// none, or another thread was faster as often as there are nodes.
+    pub(crate) fn take_next(&self, from: u32) -> Option<u32> {
+        let mut from = from;
+        for _try in 0..64 {
+            let node = self.first_from(from)?;
+            if self.take(node) {
+                return Some(node);
+            }
+            from = node.wrapping_add(1);
+        }
+        None
     }
 }

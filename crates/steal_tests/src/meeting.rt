@@ -16,23 +16,11 @@ const BY_SIXTEEN: RunRow<'static> = RunRow {
     kept: &[&[1700, 1700]],
 };
 
-/// The runs of which one has to meet.
-const RUNS: u32 = 40;
-
-// Whether the seventeen squares meet in one of some runs by sixteen workers, of which none is
-// named, and the caller's thread, where each run goes as it should. In a single run a thread may
-// look in vain for another that the system lets wait.
+// Whether the seventeen squares meet in a run by sixteen workers, of which none is named, and the
+// caller's thread.
 fn squares_meet<R: Threads + Wait + Sync>(rt: &R, alloc: Global) -> bool {
-    for _run in 0..RUNS {
-        let gate = MeetAll::new(0x1_FFFF);
-        if !goes_by(rt, alloc, &BY_SIXTEEN, &[false; 16], &gate) {
-            return false;
-        }
-        if gate.met() {
-            return true;
-        }
-    }
-    false
+    let gate = MeetAll::new(0x1_FFFF);
+    goes_by(rt, alloc, &BY_SIXTEEN, &[false; 16], &gate) && gate.met()
 }
 
 #[test]
