@@ -63,12 +63,13 @@ fn run_by<R: Threads + Wait + Sync, G: Gate + Sync>(
 
 // The same run where the start of one worker is refused; of none where there is no worker of this
 // number.
-fn run_refusing<R: Threads + Wait + Sync>(
+fn run_refusing<R: Threads + Wait + Sync, G: Gate + Sync>(
     rt: &R,
     alloc: Global,
     work: &Work,
     adopt: &[bool],
     number: u32,
+    gate: &G,
 ) -> Option<(Outcome, usize)>
     requires { CanRun work.now.plan work.now.waves }
 {
@@ -82,8 +83,8 @@ fn run_refusing<R: Threads + Wait + Sync>(
         adopt,
         starts: &starts,
     };
-    let (plan, waves, gate) = (&work.plan, &work.waves, Open::new());
-    match run_stealing_with(rt, alloc, plan, waves, &roster, &gate, &mut ticker) {
+    let (plan, waves) = (&work.plan, &work.waves);
+    match run_stealing_with(rt, alloc, plan, waves, &roster, gate, &mut ticker) {
         Ok((outcome, closed, _taken)) => Some((outcome, closed.len())),
         Err(_memory) => None,
     }
@@ -141,7 +142,7 @@ fn all_go_refused<R: Threads + Wait + Sync>(
     requires { CanRun work.now.plan work.now.waves }
 {
     for number in 0..4 {
-        let run = run_refusing(rt, alloc, work, adopt, number);
+        let run = run_refusing(rt, alloc, work, adopt, number, &Open::new());
         if !has_gone(work, run, row) {
             return false;
         }
@@ -195,6 +196,24 @@ pub(crate) fn goes_by<R: Threads + Wait + Sync, G: Gate + Sync>(
     match work_of(alloc, row.work) {
         Some(work) => {
             let run = run_by(rt, alloc, &work, adopt, gate);
+            has_gone(&work, run, row)
+        }
+        None => false,
+    }
+}
+
+/// Whether it goes so where the start of one worker is refused.
+pub(crate) fn goes_refused<R: Threads + Wait + Sync, G: Gate + Sync>(
+    rt: &R,
+    alloc: Global,
+    row: &RunRow<'_>,
+    adopt: &[bool],
+    number: u32,
+    gate: &G,
+) -> bool {
+    match work_of(alloc, row.work) {
+        Some(work) => {
+            let run = run_refusing(rt, alloc, &work, adopt, number, gate);
             has_gone(&work, run, row)
         }
         None => false,

@@ -1,6 +1,6 @@
 //! What the sinks keep by any loops that steal, and who meets.
 
-use crate::runs::{RunRow, first_unlike, goes_by, peak_by, row_goes_refused};
+use crate::runs::{RunRow, first_unlike, goes_by, goes_refused, peak_by, row_goes_refused};
 use plan_support::WorkRow;
 use pw_outside::Meet;
 use std::alloc::Global;
@@ -145,6 +145,21 @@ fn squares_meet<R: Threads + Wait + Sync>(rt: &R, alloc: Global, adopt: &[bool])
     }
 }
 
+// The same where the start of one worker is refused.
+fn squares_meet_refused<R: Threads + Wait + Sync>(
+    rt: &R,
+    alloc: Global,
+    adopt: &[bool],
+    number: u32,
+) -> Option<bool> {
+    let gate = Meet::new(0, 1);
+    if goes_refused(rt, alloc, &ONE_LOOP, adopt, number, &gate) {
+        Some(gate.met())
+    } else {
+        None
+    }
+}
+
 #[test]
 fn two_workers_meet_on_one_loop(rt: HostRuntime) -> Result<(), Fail> {
     assert_eq!(rt; squares_meet(&rt, rt.alloc(), &[false, false]), Some(true));
@@ -154,6 +169,20 @@ fn two_workers_meet_on_one_loop(rt: HostRuntime) -> Result<(), Fail> {
 #[test]
 fn a_named_worker_is_not_started(rt: HostRuntime) -> Result<(), Fail> {
     assert_eq!(rt; squares_meet(&rt, rt.alloc(), &[true, true]), Some(false));
+    Ok(())
+}
+
+#[test]
+fn a_refused_worker_beside_a_named_one_is_not_started(rt: HostRuntime) -> Result<(), Fail> {
+    let alloc = rt.alloc();
+    assert_eq!(rt;
+        squares_meet_refused(&rt, alloc, &[true, false], 1),
+        Some(false)
+    );
+    assert_eq!(rt;
+        squares_meet_refused(&rt, alloc, &[false, true], 0),
+        Some(false)
+    );
     Ok(())
 }
 
