@@ -15,3 +15,4 @@ pub mod PlanRunLemmas
 pub mod SendLemmas
 pub mod RunStatesLemmas
 pub mod SeatingLemmas
+pub mod OpenedLemmas

@@ -4,6 +4,7 @@ pub mod Boards
 pub mod Closing
 pub mod Loops
 pub mod LoopsOnPlan
+pub mod OpenedRun
 pub mod Leads
 pub mod PlanRun
 pub mod Outcomes

@@ -5,13 +5,12 @@ ghost use Rattle.cycle_model.specs.WavesFit.{WavesFit};
 ghost use Rattle.ready_queues.specs.Lanes.{loops_limit};
 ghost use Rattle.graph_run.specs.working.Prepared.{IsPrepared};
 
-use crate::boards::boards_with_pools;
 use crate::leading::Driving;
-use crate::loops::loops_with_pools;
+use crate::opening::{OpenedRun, open_run};
 use crate::seating::loop_seating;
 use crate::shared::{LoopWay, Shared};
 use crate::ways::ways_of;
-use data_loop::{LoopState, Way, pools_in};
+use data_loop::{LoopState, Way};
 use node_progress::RunModel;
 use pw_graph::Plan;
 use pw_lists::{Items, Memory};
@@ -59,24 +58,21 @@ pub(crate) fn prepare(
     ensures { IfOk result (IsPrepared plan.now waves.now loops) }
 {
     let seating = loop_seating(alloc, plan, loops)?;
-    let pools = pools_in(alloc, plan)?;
-    let pools = pools.as_slice();
-    let all = boards_with_pools(alloc, plan, waves, &seating, pools)?;
-    let mut states = loops_with_pools(alloc, plan, waves, &seating, pools, all.seats)?;
+    let OpenedRun {
+        boards,
+        drivers,
+        loops: states,
+        own,
+    } = open_run(alloc, plan, waves, &seating)?;
     let (ways, way, others) = ways_of(alloc, plan, loops)?;
-    let own = states.pop().unwrap();
     let loops = loop_ways(alloc, states, others)?;
     Ok(Prepared {
         shared: Shared {
-            boards: all.boards,
+            boards,
             ways,
             run_model: RunModel::of(plan, waves),
         },
         loops,
-        driving: Driving {
-            own,
-            drivers: all.drivers,
-            way,
-        },
+        driving: Driving { own, drivers, way },
     })
 }
