@@ -8,12 +8,14 @@ pub mod Explaining
 pub mod FileMessages
 pub mod FormMessages
 pub mod Help
+pub mod InactiveNodes
 pub mod KeyNames
 pub mod LinkEnds
 pub mod LinkNotes
 pub mod LoneInputs
 pub mod MainWords
 pub mod Makers
+pub mod MapHints
 pub mod Message
 pub mod NameRules
 pub mod Nearest

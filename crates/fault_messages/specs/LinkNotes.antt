@@ -29,11 +29,12 @@ is_refused O.NotThere = false
 is_refused _ = true
 
 -- of a key: what both sides admit there
-abbrev pub key_cause : List PlanNode → List RefusedLink → ℕ → ℕ → List ℕ
-key_cause nodes refused n key = clash_said key ++ sides_part nodes key (entry_of refused n key)
+abbrev pub key_cause : List PlanNode → List RefusedLink → ℕ → LinkLine → ℕ → List ℕ
+key_cause nodes refused n link key =
+    clash_said key ++ sides_part nodes link key (entry_of refused n key)
 
 abbrev pub cause_said : List PlanNode → List RefusedLink → ℕ → LinkLine → LineOutcome → List ℕ
-cause_said nodes refused n link (O.NoFormat key) = key_cause nodes refused n key
+cause_said nodes refused n link (O.NoFormat key) = key_cause nodes refused n link key
 cause_said nodes refused n link O.NoBuffers = codes "no number of buffers suits both ports"
 cause_said nodes refused n link O.Looped = loop_said link
 cause_said nodes refused n link O.Twice = codes "it is there already"

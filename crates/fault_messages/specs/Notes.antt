@@ -25,7 +25,7 @@ abbrev pub run_notes : Words → Script → Plan → List Peak → List RefusedL
 run_notes words script plan peaks refused None = []
 run_notes words script plan peaks refused (Some work) =
     link_notes words plan.nodes refused script.lines plan.lines
-    ++ (lone_notes words script ++ sink_notes words script work.stores peaks)
+    ++ (lone_notes words script ++ sink_notes words script plan work.stores peaks)
 
 -- of a check: the reason, where there is one; and a line of the trace that is no event
 abbrev pub check_note : Words → Words → Option Reason → Option Event → List ℕ

@@ -1,13 +1,15 @@
 //! Sinks and meters that got no frames, in words.
 ghost use Rattle.std.specs.Prelude.{◌≡◌, ◌++◌, map, string_bytes, OnOk};
-ghost use Rattle.fault_messages.specs.EmptySinks.{no_cycles, drain_part, groups_part, inactive_said};
-ghost use Rattle.fault_messages.specs.EmptySinks.{empty_cause, empty_sink, still_meter, empty_note, still_note};
+ghost use Rattle.fault_messages.specs.EmptySinks.{no_cycles, is_run, may_cause, empty_cause};
+ghost use Rattle.fault_messages.specs.EmptySinks.{empty_sink, still_meter, empty_note, is_still, still_note};
 
+use crate::inactive_nodes::{drain_part, is_ever_active, put_inactive, put_run_cause};
 use crate::note_heads::put_note_head;
 use crate::places::word_at;
-use crate::putting::{put_behind, put_between, put_two_quoted};
-use crate::script_lines::{has_cycles, may_have_cycles};
-use graph_script::Line;
+use crate::putting::{put_behind, put_two_quoted};
+use crate::script_lines::may_have_cycles;
+use graph_script::Script;
+use pw_graph::Plan;
 use pw_lists::{Memory, Text};
 
 #[tactic(auto, unfolding(crate::specs::EmptySinks::no_cycles))]
@@ -17,65 +19,54 @@ fn no_cycles() -> &'static [u8]
     b": the script has no cycles line and no drain line"
 }
 
-// What is known of `drain`, where there is no `cycles` line.
-#[tactic(auto, unfolding(crate::specs::EmptySinks::drain_part))]
-fn drain_part(lines: &[Line]) -> &'static [u8]
-    ensures { result.now ≡ drain_part lines.now }
+// Whether the command is `run`.
+fn is_run(words: &[String]) -> bool
+    ensures { result ≡ is_run (map string_bytes words.now) }
 {
-    if has_cycles(lines) {
-        b""
+    word_at(words, 0) == b"run".as_slice()
+}
+
+// Why a node has no frames, where there may be cycles.
+fn put_may_cause(
+    text: &mut Text,
+    words: &[String],
+    script: &Script,
+    plan: &Plan,
+    node: u32,
+) -> Result<(), Memory>
+    ensures { OnOk result (text.new ≡ text.old
+        ++ may_cause (map string_bytes words.now) script.now plan.now node) }
+{
+    let lines = script.lines.as_slice();
+    if is_run(words) {
+        let (names, links) = (script.names.as_slice(), plan.lines.as_slice());
+        put_run_cause(text, names, lines, links, node, plan.epochs.as_slice())
     } else {
-        b"; drain goes on only while an active source has frames left"
+        put_inactive(text, drain_part(lines))
     }
 }
 
-// What is known of `run`.
-#[tactic(auto, unfolding(crate::specs::EmptySinks::groups_part))]
-fn groups_part(command: &[u8]) -> &'static [u8]
-    ensures { result.now ≡ groups_part command.now }
+// Why a node has no frames.
+fn put_empty_cause(
+    text: &mut Text,
+    words: &[String],
+    script: &Script,
+    plan: &Plan,
+    node: u32,
+) -> Result<(), Memory>
+    ensures { OnOk result (text.new ≡ text.old
+        ++ empty_cause (map string_bytes words.now) script.now plan.now node) }
 {
-    if command == b"run".as_slice() {
-        b"; groups gives each linked part a driver of its own"
-    } else {
-        b""
-    }
-}
-
-// That a sink was active in no cycle, and rules that may help.
-#[tactic(auto, unfolding(crate::specs::EmptySinks::inactive_said))]
-fn put_inactive(text: &mut Text, drain: &[u8], groups: &[u8]) -> Result<(), Memory>
-    ensures { OnOk result (text.new ≡ text.old ++ inactive_said drain.now groups.now) }
-{
-    put_between(
-        text,
-        b": it was active in no cycle since it got its format",
-        drain,
-        groups,
-    )
-}
-
-// Why a sink has no frames.
-#[tactic(auto, unfolding(crate::specs::EmptySinks::empty_cause))]
-fn put_empty_cause(text: &mut Text, command: &[u8], lines: &[Line]) -> Result<(), Memory>
-    ensures { OnOk result (text.new ≡ text.old ++ empty_cause command.now lines.now) }
-{
-    if may_have_cycles(lines) {
-        put_inactive(text, drain_part(lines), groups_part(command))
+    if may_have_cycles(script.lines.as_slice()) {
+        put_may_cause(text, words, script, plan, node)
     } else {
         text.extend(no_cycles())
     }
 }
 
 #[tactic(auto, unfolding(crate::specs::EmptySinks::empty_sink))]
-fn put_empty_sink(
-    text: &mut Text,
-    name: &[u8],
-    file: &[u8],
-    command: &[u8],
-    lines: &[Line],
-) -> Result<(), Memory>
-    ensures { OnOk result (text.new ≡ text.old
-        ++ empty_sink name.now file.now (empty_cause command.now lines.now)) }
+fn put_empty_sink(text: &mut Text, name: &[u8], file: &[u8]) -> Result<(), Memory>
+    ensures { OnOk result (text.new ≡ text.old ++ empty_sink name.now file.now) }
 {
     put_two_quoted(
         text,
@@ -83,59 +74,72 @@ fn put_empty_sink(
         b" has no frames, so what it writes to ",
         file,
         b" is an empty WAV file",
-    )?;
-    put_empty_cause(text, command, lines)
+    )
 }
 
 #[tactic(auto, unfolding(crate::specs::EmptySinks::still_meter))]
 fn put_still_meter(text: &mut Text, name: &[u8]) -> Result<(), Memory>
     ensures { OnOk result (text.new ≡ text.old ++ still_meter name.now) }
 {
-    put_behind(
-        text,
-        name,
-        b" got no frames, so its peak is 0: the script has no cycles line and no drain line",
-    )
+    put_behind(text, name, b" got no frames, so its peak is 0")
 }
 
 /// The note on a sink that stored no frames, by its samples.
 pub fn put_empty_note(
     text: &mut Text,
     words: &[String],
-    lines: &[Line],
+    script: &Script,
+    plan: &Plan,
     samples: &[i16],
     number: u32,
+    node: u32,
     name: &[u8],
     file: &[u8],
 ) -> Result<(), Memory>
     ensures { OnOk result (text.new ≡ text.old
-        ++ empty_note (map string_bytes words.now) lines.now samples.now number name.now
-        file.now) }
+        ++ empty_note (map string_bytes words.now) script.now plan.now samples.now number node
+        name.now file.now) }
 {
     if !samples.is_empty() {
         return Ok(());
     }
     put_note_head(text, words, number)?;
-    put_empty_sink(text, name, file, word_at(words, 0), lines)?;
+    put_empty_sink(text, name, file)?;
+    put_empty_cause(text, words, script, plan, node)?;
     text.extend(b"\n")
 }
 
-/// The note on a meter with this peak, where the script has no cycles.
+// Whether a meter certainly got no frames.
+fn is_still(words: &[String], script: &Script, plan: &Plan, node: u32) -> bool
+    ensures { result ≡ is_still (map string_bytes words.now) script.now plan.now node }
+{
+    if may_have_cycles(script.lines.as_slice()) {
+        is_run(words) && !is_ever_active(plan.epochs.as_slice(), node)
+    } else {
+        true
+    }
+}
+
+/// The note on a meter with this peak, where it certainly got no frames.
 pub fn put_still_note(
     text: &mut Text,
     words: &[String],
-    lines: &[Line],
+    script: &Script,
+    plan: &Plan,
     peak: u32,
     number: u32,
+    node: u32,
     name: &[u8],
 ) -> Result<(), Memory>
     ensures { OnOk result (text.new ≡ text.old
-        ++ still_note (map string_bytes words.now) lines.now peak number name.now) }
+        ++ still_note (map string_bytes words.now) script.now plan.now peak number node
+        name.now) }
 {
-    if peak != 0 || may_have_cycles(lines) {
+    if peak != 0 || !is_still(words, script, plan, node) {
         return Ok(());
     }
     put_note_head(text, words, number)?;
     put_still_meter(text, name)?;
+    put_empty_cause(text, words, script, plan, node)?;
     text.extend(b"\n")
 }

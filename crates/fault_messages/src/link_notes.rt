@@ -30,12 +30,14 @@ fn put_key_cause(
     nodes: &[PlanNode],
     refused: &[RefusedLink],
     number: u32,
+    link: LinkLine,
     key: u32,
 ) -> Result<(), Memory>
-    ensures { OnOk result (text.new ≡ text.old ++ key_cause nodes.now refused.now number key) }
+    ensures { OnOk result (text.new ≡ text.old
+        ++ key_cause nodes.now refused.now number link key) }
 {
     put_clash(text, key)?;
-    put_sides(text, nodes, refused, number, key)
+    put_sides(text, nodes, refused, number, link, key)
 }
 
 // Whether the link of a line is not made.
@@ -63,7 +65,7 @@ fn put_cause(
         ++ cause_said nodes.now refused.now number link link.outcome) }
 {
     match link.outcome {
-        LineOutcome::NoFormat { key } => put_key_cause(text, nodes, refused, number, key),
+        LineOutcome::NoFormat { key } => put_key_cause(text, nodes, refused, number, link, key),
         LineOutcome::NoBuffers => text.extend(b"no number of buffers suits both ports"),
         LineOutcome::Looped => text.extend(loop_said(link)),
         LineOutcome::Twice => text.extend(b"it is there already"),

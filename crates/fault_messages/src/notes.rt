@@ -40,7 +40,7 @@ fn put_run_notes(
             let (nodes, links) = (plan.nodes.as_slice(), plan.lines.as_slice());
             put_link_notes(text, words, nodes, refused, script.lines.as_slice(), links)?;
             put_lone_notes(text, words, script)?;
-            put_sink_notes(text, words, script, work.stores.as_slice(), peaks)
+            put_sink_notes(text, words, script, plan, work.stores.as_slice(), peaks)
         }
     }
 }

@@ -14,6 +14,7 @@ use crate::sink_files::{
 };
 use crate::sink_waves::samples_at;
 use graph_script::{Command, Line, Script};
+use pw_graph::Plan;
 use pw_lists::{Memory, Text};
 use run_results::Store;
 use wav_files::Peak;
@@ -89,17 +90,19 @@ fn put_file_notes(
 fn put_wave_notes(
     text: &mut Text,
     words: &[String],
-    lines: &[Line],
+    script: &Script,
+    plan: &Plan,
     samples: &[i16],
     number: u32,
-    name: &[u8],
+    node: u32,
     file: &[u8],
 ) -> Result<(), Memory>
     ensures { OnOk result (text.new ≡ text.old
-        ++ wave_notes (map string_bytes words.now) lines.now samples.now number name.now
+        ++ wave_notes (map string_bytes words.now) script.now plan.now samples.now number node
         file.now) }
 {
-    put_empty_note(text, words, lines, samples, number, name, file)?;
+    let name = name_of(script, node);
+    put_empty_note(text, words, script, plan, samples, number, node, name, file)?;
     put_clipped_note(text, words, samples, number, name)
 }
 
@@ -107,25 +110,27 @@ fn put_wave_notes(
 fn put_sink_note(
     text: &mut Text,
     words: &[String],
-    lines: &[Line],
+    script: &Script,
+    plan: &Plan,
     stores: &[Store],
     number: u32,
-    name: &[u8],
+    node: u32,
     file: &[u8],
 ) -> Result<(), Memory>
     ensures { OnOk result (text.new ≡ text.old
-        ++ sink_note (map string_bytes words.now) lines.now stores.now
-        (samples_at stores.now number) number name.now file.now) }
+        ++ sink_note (map string_bytes words.now) script.now plan.now stores.now
+        (samples_at stores.now number) number node file.now) }
 {
     match samples_at(stores, number) {
         None => {
             put_note_head(text, words, number)?;
-            put_unused_said(text, stores, name, file)?;
+            put_unused_said(text, stores, name_of(script, node), file)?;
             text.extend(b"\n")
         }
         Some(samples) => {
+            let lines = script.lines.as_slice();
             put_file_notes(text, words, lines, stores, number, file)?;
-            put_wave_notes(text, words, lines, samples, number, name, file)
+            put_wave_notes(text, words, script, plan, samples, number, node, file)
         }
     }
 }
@@ -146,21 +151,23 @@ fn peak_of(peaks: &[Peak], node: u32) -> Option<Peak>
 fn put_meter_note(
     text: &mut Text,
     words: &[String],
-    lines: &[Line],
+    script: &Script,
+    plan: &Plan,
     peak: Option<Peak>,
     number: u32,
-    name: &[u8],
+    node: u32,
 ) -> Result<(), Memory>
     ensures { OnOk result (text.new ≡ text.old
-        ++ meter_note (map string_bytes words.now) lines.now peak number name.now) }
+        ++ meter_note (map string_bytes words.now) script.now plan.now peak number node) }
 {
+    let name = name_of(script, node);
     match peak {
         None => {
             put_note_head(text, words, number)?;
             put_unused_meter(text, name)?;
             text.extend(b"\n")
         }
-        Some(peak) => put_still_note(text, words, lines, peak.value, number, name),
+        Some(peak) => put_still_note(text, words, script, plan, peak.value, number, node, name),
     }
 }
 
@@ -179,23 +186,24 @@ fn put_sink_part(
     text: &mut Text,
     words: &[String],
     script: &Script,
+    plan: &Plan,
     stores: &[Store],
     peaks: &[Peak],
     line: &Line,
 ) -> Result<(), Memory>
     ensures { OnOk result (text.new ≡ text.old
-        ++ sink_part (map string_bytes words.now) script.now stores.now peaks.now line.now.line
-        line.now.command) }
+        ++ sink_part (map string_bytes words.now) script.now plan.now stores.now peaks.now
+        line.now.line line.now.command) }
 {
-    let lines = script.lines.as_slice();
+    let number = line.line;
     match &line.command {
         Command::Sink { node, file } => {
-            let name = name_of(script, *node);
-            put_sink_note(text, words, lines, stores, line.line, name, file.as_slice())
+            let file = file.as_slice();
+            put_sink_note(text, words, script, plan, stores, number, *node, file)
         }
         Command::Meter { node } => {
-            let name = name_of(script, *node);
-            put_meter_note(text, words, lines, peak_of(peaks, *node), line.line, name)
+            let peak = peak_of(peaks, *node);
+            put_meter_note(text, words, script, plan, peak, number, *node)
         }
         _ => Ok(()),
     }
@@ -203,20 +211,22 @@ fn put_sink_part(
 
 /// Which sinks and meters of a script had no format at the end or got no frames, which sinks wrote
 /// a file that a later one writes too or a source reads, and which have samples at a limit of 16
-/// bits: a note for each, by what the run stored and by the peaks of its meters. Cost: for each
-/// sink one look at each of its samples, and for each of both one at each line of the script.
+/// bits: a note for each, by what the run stored, by the peaks of its meters, and by its plan.
+/// Cost: for each sink one look at each of its samples, and for each of both one at each line of
+/// the script and at each active node of each epoch.
 pub fn put_sink_notes(
     text: &mut Text,
     words: &[String],
     script: &Script,
+    plan: &Plan,
     stores: &[Store],
     peaks: &[Peak],
 ) -> Result<(), Memory>
     ensures { OnOk result (text.new ≡ text.old
-        ++ sink_notes (map string_bytes words.now) script.now stores.now peaks.now) }
+        ++ sink_notes (map string_bytes words.now) script.now plan.now stores.now peaks.now) }
 {
     for line in script.lines.as_slice() {
-        put_sink_part(text, words, script, stores, peaks, line)?;
+        put_sink_part(text, words, script, plan, stores, peaks, line)?;
     }
     Ok(())
 }

@@ -5,5 +5,5 @@ use Rattle.fault_messages.proofs.sink_notes.put_sink_notes.Given as goal
 -- the notes on the lines before
 abbrev pub invariant-loop-line : goal.invariant-loop-line
 invariant-loop-line l = l.text ≡ l.fn.text
-    ++ flat_map (λ line. sink_part (map string_bytes l.words) l.script l.stores l.peaks line.line line.command)
+    ++ flat_map (λ line. sink_part (map string_bytes l.words) l.script l.plan l.stores l.peaks line.line line.command)
     (take l.line-index l.script.lines)
