@@ -60,7 +60,10 @@ SIDES = [
 
 EMPTY = "has no frames, so what it writes to"
 NEVER = "it was active in no cycle since it got its format"
-GROUPS = "; groups gives each linked part a driver of its own"
+NO_CYCLE = ("no cycle was run: drain goes on only while an active source has frames left, "
+            "cycles N in any case")
+LEFT = '; in the last cycle "m" drove, and no links of nodes that were on joined the two'
+GROUPS = "; where no line links the two, groups gives each a driver"
 PAIR = "square a 48000 1 4 9\nsink o o.wav\nlink a.out o.in\n"
 
 # Scripts, what is put of their sinks and meters, and what is noted at which line.
@@ -70,13 +73,15 @@ SINKS = [
       "the script has no cycles line and no drain line"),
       (4, '"m" got no frames, so its peak is 0: the script has no cycles line and no drain line')]),
     (PAIR + "drain\n", "wrote o 0\n",
-     [(2, f'"o" {EMPTY} "o.wav" is an empty WAV file: {NEVER}; '
-       f"drain goes on only while an active source has frames left{GROUPS}")]),
+     [(2, f'"o" {EMPTY} "o.wav" is an empty WAV file: {NO_CYCLE}')]),
+    (PAIR + "meter m\nlink a.out m.in\ndrain\n", "wrote o 0\npeak m 0\n",
+     [(2, f'"o" {EMPTY} "o.wav" is an empty WAV file: {NO_CYCLE}'),
+      (4, f'"m" got no frames, so its peak is 0: {NO_CYCLE}')]),
     ("quantum 4\n" + PAIR + "meter m\ndriver m 1\ncycles 2\nlink a.out m.in\ncycles 1\n",
      "wrote o 4\npeak m 9\n", []),
     ("quantum 4\n" + PAIR + "meter m\ndriver m 1\ncycles 2\nlink a.out m.in\n",
      "wrote o 0\npeak m 0\n",
-     [(3, f'"o" {EMPTY} "o.wav" is an empty WAV file: {NEVER}{GROUPS}')]),
+     [(3, f'"o" {EMPTY} "o.wav" is an empty WAV file: {NEVER}{LEFT}{GROUPS}')]),
     ("quantum 4\nsource s in.wav\nsink o in.wav\nsink p in.wav\nlink s.out p.in\ncycles 1\n",
      "unused o\nwrote p 4\n",
      [(3, '"o" had no format at the end, so it does not write "in.wav", which another sink writes'),

@@ -1,8 +1,9 @@
-//! The script and the plan of a run, made of rows: the script of a text, its nodes, and what its
-//! lines with two ends did.
+//! The script and the plan of a run, made of rows: the script of a text, its nodes, what its lines
+//! with two ends did, and its epochs.
 
+use crate::found_values::Driven;
 use graph_script::{Command, Line, Script, kind_made, parse};
-use pw_graph::{Kind, LineOutcome, LinkLine, PlanNode, PortId};
+use pw_graph::{Epoch, Kind, LineOutcome, LinkLine, PlanNode, PortId, Shape, ShapeNode};
 use pw_lists::{Items, Memory, Text};
 use std::alloc::Global;
 
@@ -74,4 +75,39 @@ pub(crate) fn told_of(
         }
     }
     Ok(links)
+}
+
+// An epoch of one cycle.
+fn epoch_of(alloc: Global, driven: Driven) -> Result<Epoch, Memory> {
+    let (driver, active) = driven;
+    let mut nodes = Items::new(alloc);
+    for node in active {
+        nodes.push(ShapeNode {
+            node: *node,
+            required: 0,
+            targets: Items::new(alloc),
+        })?;
+    }
+    Ok(Epoch {
+        shape: Shape {
+            quantum: 8192,
+            first: 0,
+            cycles: 1,
+            driver,
+            nodes,
+            links: Items::new(alloc),
+        },
+        forms: Items::new(alloc),
+        fresh: Items::new(alloc),
+    })
+}
+
+/// The epochs of a plan, by their drivers and active nodes.
+pub(crate) fn epochs_of(alloc: Global, rows: &[Driven]) -> Result<Items<Epoch>, Memory> {
+    let mut epochs = Items::new(alloc);
+    for row in rows {
+        let epoch = epoch_of(alloc, *row)?;
+        epochs.push(epoch)?;
+    }
+    Ok(epochs)
 }

@@ -1,6 +1,6 @@
 //! What a run found, made of rows.
 
-use crate::found_plans::{nodes_of, script_of, told_of};
+use crate::found_plans::{epochs_of, nodes_of, script_of, told_of};
 use format_filter::{Choice, Wide};
 use pod_codec::Pod;
 use pw_graph::{LineOutcome, Plan, PortId};
@@ -20,6 +20,8 @@ pub(crate) enum Seen {
     /// Of a run of a script: what its lines with two ends did, in their order, and the peaks of its
     /// meters.
     Run(&'static [LineOutcome], &'static [Peak]),
+    /// Of a run: the same, and its epochs.
+    Ran(&'static [LineOutcome], &'static [Peak], &'static [Driven]),
     /// Of a run: what its lines with two ends did, and what both sides of refused links admit.
     Parted(&'static [LineOutcome], &'static [Parted]),
     /// Of a trace: that it is legal, or its first line that is no event.
@@ -28,6 +30,9 @@ pub(crate) enum Seen {
     /// Of two objects that clash: the key.
     Clash(Option<u32>),
 }
+
+/// The driver of an epoch, and its active nodes.
+pub(crate) type Driven = (u32, &'static [u32]);
 
 /// What an offer admits at a key: nothing where it does not have it.
 #[derive(Clone, Copy, Drop)]
@@ -139,6 +144,7 @@ fn run_of(
     script: &[u8],
     outcomes: &[LineOutcome],
     peaks: &[Peak],
+    epochs: &[Driven],
     parted: &[Parted],
 ) -> Result<What, Memory> {
     let script = script_of(alloc, script)?;
@@ -148,7 +154,7 @@ fn run_of(
     let plan = Plan {
         quantum: 8192,
         nodes,
-        epochs: Items::new(alloc),
+        epochs: epochs_of(alloc, epochs)?,
         lines,
     };
     Ok(What::Run {
@@ -165,11 +171,15 @@ pub(crate) fn what_of(alloc: Global, script: Option<&[u8]>, seen: Seen) -> Resul
         Seen::Nothing => Ok(What::Nothing),
         Seen::Run(outcomes, peaks) => match script {
             None => Ok(What::Nothing),
-            Some(script) => run_of(alloc, script, outcomes, peaks, &[]),
+            Some(script) => run_of(alloc, script, outcomes, peaks, &[], &[]),
+        },
+        Seen::Ran(outcomes, peaks, epochs) => match script {
+            None => Ok(What::Nothing),
+            Some(script) => run_of(alloc, script, outcomes, peaks, epochs, &[]),
         },
         Seen::Parted(outcomes, parted) => match script {
             None => Ok(What::Nothing),
-            Some(script) => run_of(alloc, script, outcomes, &[], parted),
+            Some(script) => run_of(alloc, script, outcomes, &[], &[], parted),
         },
         Seen::Legal => Ok(What::Check {
             names: Items::new(alloc),

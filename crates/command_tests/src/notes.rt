@@ -180,7 +180,33 @@ const LINKS: &'static [Noted] = &[
             no common media type (key 1)\n\
             pipegraph: t.graph:6: \"m.out\" to \"n.in\" is no link: \
             no common channels (key 65540); \
-            where one side has one channel and the other two, map NAME 1 0,0 makes two of one\n",
+            the input of a map has as many channels as its CHANNELS says\n",
+        ..RUN
+    },
+    // Maps at both ends, at the output alone, and at a key that is not that of the channels.
+    Noted {
+        script: Some(
+            b"map n 1 0,0\nmap p 1 0\nmeter m\nlink n.out p.in\nlink n.out m.in\n\
+            link p.out m.in\n",
+        ),
+        seen: Seen::Parted(
+            &[CHANNELS, CHANNELS, LineOutcome::NoFormat { key: 65_539 }],
+            &[
+                (4, 65_540, Pair::Both(Side::Int(2), Side::Int(1))),
+                (5, 65_540, Pair::Both(Side::Int(2), Side::Int(1))),
+                (6, 65_539, Pair::Both(Side::Int(1), Side::Int(2))),
+            ],
+        ),
+        notes: b"pipegraph: t.graph:4: \"n.out\" to \"p.in\" is no link: \
+            no common channels (key 65540): 2 and 1; \
+            the input of a map has as many channels as its CHANNELS says\n\
+            pipegraph: t.graph:5: \"n.out\" to \"m.in\" is no link: \
+            no common channels (key 65540): 2 and 1; \
+            the output of a map has a channel for each number of its LIST\n\
+            pipegraph: t.graph:6: \"p.out\" to \"m.in\" is no link: \
+            no common rate (key 65539): 1 and 2; \
+            no node changes a rate, but sox IN -r RATE OUT does\n\
+            pipegraph: t.graph:3: \"m\" had no format at the end, so it has no peak\n",
         ..RUN
     },
 ];
@@ -256,7 +282,7 @@ const SINKS: &'static [Noted] = &[
     // Of two meters the one without a format.
     Noted {
         script: Some(b"meter n\nmeter m\ncycles 1\n"),
-        seen: Seen::Run(&[], &[Peak { node: 1, value: 0 }]),
+        seen: Seen::Ran(&[], &[Peak { node: 1, value: 0 }], &[(63, &[1, 63])]),
         notes: b"pipegraph: t.graph:1: \"n\" had no format at the end, so it has no peak\n",
         ..RUN
     },
@@ -292,18 +318,82 @@ const EMPTY: &'static [Noted] = &[
         seen: Seen::Run(&[], &[Peak { node: 1, value: 0 }]),
         stored: &[(1, "o.wav", &[])],
         notes: b"pipegraph: t.graph:1: \"o\" has no frames, so what it writes to \"o.wav\" \
+            is an empty WAV file: no cycle was run: drain goes on only while an active source has \
+            frames left, cycles N in any case\n\
+            pipegraph: t.graph:2: \"m\" got no frames, so its peak is 0: \
+            no cycle was run: drain goes on only while an active source has frames left, \
+            cycles N in any case\n",
+        ..RUN
+    },
+    // Two epochs, with and without the sinks and the meters among the active nodes.
+    Noted {
+        script: Some(b"sink o o.wav\nmeter m\nsink p p.wav\nmeter n\ndrain\ncycles 3\n"),
+        seen: Seen::Ran(
+            &[],
+            &[Peak { node: 1, value: 0 }, Peak { node: 3, value: 0 }],
+            &[(63, &[3, 63]), (2, &[2])],
+        ),
+        stored: &[(1, "o.wav", &[]), (3, "p.wav", &[])],
+        notes: b"pipegraph: t.graph:1: \"o\" has no frames, so what it writes to \"o.wav\" \
+            is an empty WAV file: it was active in no cycle since it got its format; \
+            in the last cycle \"p\" drove, and no links of nodes that were on joined the two; \
+            where no line links the two, groups gives each a driver\n\
+            pipegraph: t.graph:2: \"m\" got no frames, so its peak is 0: \
+            it was active in no cycle since it got its format; \
+            in the last cycle \"p\" drove, and no links of nodes that were on joined the two; \
+            where no line links the two, groups gives each a driver\n\
+            pipegraph: t.graph:3: \"p\" has no frames, so what it writes to \"p.wav\" \
+            is an empty WAV file: it was active in no cycle since it got its format\n",
+        ..RUN
+    },
+    // The last epoch has the built-in driver; a driver without a name.
+    Noted {
+        script: Some(b"sink o o.wav\ndrain\n"),
+        seen: Seen::Ran(&[], &[], &[(1, &[1]), (63, &[63])]),
+        stored: &[(1, "o.wav", &[])],
+        notes: b"pipegraph: t.graph:1: \"o\" has no frames, so what it writes to \"o.wav\" \
             is an empty WAV file: it was active in no cycle since it got its format; \
             drain goes on only while an active source has frames left; \
-            groups gives each linked part a driver of its own\n",
+            in the last cycle it had no link whose nodes were both on\n",
         ..RUN
     },
     Noted {
-        script: Some(b"sink o o.wav\nmeter m\nsink p p.wav\ndrain\ncycles 3\n"),
-        seen: Seen::Run(&[], &[Peak { node: 1, value: 0 }]),
-        stored: &[(1, "o.wav", &[]), (3, "p.wav", &[0])],
+        script: Some(b"sink o o.wav\ncycles 1\n"),
+        seen: Seen::Ran(&[], &[], &[(63, &[63]), (7, &[7])]),
+        stored: &[(1, "o.wav", &[])],
         notes: b"pipegraph: t.graph:1: \"o\" has no frames, so what it writes to \"o.wav\" \
             is an empty WAV file: it was active in no cycle since it got its format; \
-            groups gives each linked part a driver of its own\n",
+            in the last cycle node 7 drove, and no links of nodes that were on joined the two; \
+            where no line links the two, groups gives each a driver\n",
+        ..RUN
+    },
+    // A link that is not there; one that is there already is not among them.
+    Noted {
+        script: Some(b"sink o o.wav\ngain g 1\nlink g.out o.in\nlink g.out o.in\ndrain\n"),
+        seen: Seen::Ran(
+            &[LineOutcome::NoBuffers, LineOutcome::Twice],
+            &[],
+            &[(1, &[1])],
+        ),
+        stored: &[(1, "o.wav", &[])],
+        notes: b"pipegraph: t.graph:3: \"g.out\" to \"o.in\" is no link: \
+            no number of buffers suits both ports\n\
+            pipegraph: t.graph:4: \"g.out\" to \"o.in\" is no link: it is there already\n\
+            pipegraph: t.graph:1: \"o\" has no frames, so what it writes to \"o.wav\" \
+            is an empty WAV file: it was active in no cycle since it got its format; \
+            drain goes on only while an active source has frames left; \
+            in the last cycle \"g\" drove, and no links of nodes that were on joined the two; \
+            not every link of the script was made\n",
+        ..RUN
+    },
+    Noted {
+        script: Some(b"sink o o.wav\ngain g 1\nlink g.out o.in\nlink g.out o.in\ndrain\n"),
+        seen: Seen::Run(&[MADE, LineOutcome::Twice], &[]),
+        stored: &[(1, "o.wav", &[])],
+        notes: b"pipegraph: t.graph:4: \"g.out\" to \"o.in\" is no link: it is there already\n\
+            pipegraph: t.graph:1: \"o\" has no frames, so what it writes to \"o.wav\" \
+            is an empty WAV file: no cycle was run: drain goes on only while an active source has \
+            frames left, cycles N in any case\n",
         ..RUN
     },
     Noted {

@@ -54,6 +54,33 @@ const NOTES: &'static [Asked] = &[
             6 and 2",
         ..RUN
     },
+    // Maps at an end.
+    Asked {
+        script: b"square c 48000 2 2 5\nmap p 1 0\nlink c.out p.in\n",
+        code: 0,
+        out: b"nolink c.out p.in 65540\n",
+        said: b"s.graph:3: \"c.out\" to \"p.in\" is no link: no common channels (key 65540): \
+            2 and 1; the input of a map has as many channels as its CHANNELS says",
+        ..RUN
+    },
+    Asked {
+        script: b"square a 48000 1 2 5\nmap p 1 0,0\nmap r 2 1\nsplit t\nlink a.out p.in\n\
+            link p.out r.in\nlink r.out t.in\n",
+        code: 0,
+        out: b"link a.out p.in 48000 1 2\nlink p.out r.in 48000 2 2\nnolink r.out t.in 65540\n",
+        said: b"s.graph:7: \"r.out\" to \"t.in\" is no link: no common channels (key 65540): \
+            1 and 2; the output of a map has a channel for each number of its LIST",
+        ..RUN
+    },
+    Asked {
+        line: "groups s.graph",
+        script: b"square c 48000 2 2 5\nmap p 1 0\nlink c.out p.in\n",
+        code: 0,
+        out: b"nolink c.out p.in 65540\n",
+        said: b"s.graph:3: \"c.out\" to \"p.in\" is no link: no common channels (key 65540); \
+            the input of a map has as many channels as its CHANNELS says",
+        ..RUN
+    },
     Asked {
         script: b"square a 44100 1 2 5\ngain g 256\noffer g out f.pod\nmeter p\n\
             link a.out g.in\nlink g.out p.in\n",
@@ -187,9 +214,21 @@ const SINKS: &'static [Asked] = &[
         code: 0,
         out: b"link q.out o.in 48000 1 2\nwrote o 0\n",
         said: b"s.graph:2: \"o\" has no frames, so what it writes to \"o.wav\" is an empty \
-            WAV file: it was active in no cycle since it got its format; \
-            drain goes on only while an active source has frames left; \
-            groups gives each linked part a driver of its own",
+            WAV file: no cycle was run: drain goes on only while an active source has frames left, \
+            cycles N in any case",
+        ..RUN
+    },
+    // A source that is not active has frames; the link to the meter is refused.
+    Asked {
+        script: b"source s s.wav\nsquare q 44100 1 2 5\nmeter m\nsquare r 48000 2 2 5\n\
+            link r.out m.in\nlink q.out m.in\ndrain\n",
+        code: 0,
+        out: b"link r.out m.in 48000 2 2\nnolink q.out m.in 65539\npeak m 0\n",
+        said: b"s.graph:6: \"q.out\" to \"m.in\" is no link: no common rate (key 65539): \
+            44100 and 48000; no node changes a rate, but sox IN -r RATE OUT does\n\
+            pipegraph: s.graph:3: \"m\" got no frames, so its peak is 0: no cycle was run: \
+            drain goes on only while an active source has frames left, cycles N in any case; \
+            not every link of the script was made",
         ..RUN
     },
     Asked {
@@ -199,7 +238,65 @@ const SINKS: &'static [Asked] = &[
         out: b"link a.out o.in 48000 1 2\nlink b.out m.in 48000 1 2\nwrote o 0\npeak m 5\n",
         said: b"s.graph:2: \"o\" has no frames, so what it writes to \"o.wav\" is an empty \
             WAV file: it was active in no cycle since it got its format; \
-            groups gives each linked part a driver of its own",
+            in the last cycle \"m\" drove, and no links of nodes that were on joined the two; \
+            where no line links the two, groups gives each a driver",
+        ..RUN
+    },
+    // A meter that the driver does not reach, and a sink whose link to it is refused.
+    Asked {
+        script: b"square a 48000 1 2 5\nmeter m\nlink a.out m.in\nsink o o.wav\ndriver o 1\n\
+            source s s.wav\nlink s.out o.in\ndrain\n",
+        code: 0,
+        out: b"link a.out m.in 48000 1 2\nlink s.out o.in 48000 1 2\npeak m 0\nwrote o 1024\n",
+        said: b"s.graph:2: \"m\" got no frames, so its peak is 0: \
+            it was active in no cycle since it got its format; \
+            drain goes on only while an active source has frames left; \
+            in the last cycle \"o\" drove, and no links of nodes that were on joined the two; \
+            where no line links the two, groups gives each a driver",
+        ..RUN
+    },
+    Asked {
+        script: b"quantum 2\nsquare a 48000 1 2 5\ngain g 256\nsink o o.wav\nlink a.out g.in\n\
+            sink p p.wav\nsquare b 44100 1 2 5\nlink b.out p.in\nlink g.out o.in\n\
+            link g.out p.in\ndriver p 1\ncycles 1\n",
+        code: 0,
+        out: b"link a.out g.in 48000 1 2\nlink b.out p.in 44100 1 2\nlink g.out o.in 48000 1 2\n\
+            nolink g.out p.in 65539\nwrote o 0\nwrote p 2\n",
+        said: b"s.graph:10: \"g.out\" to \"p.in\" is no link: no common rate (key 65539): \
+            48000 and 44100; no node changes a rate, but sox IN -r RATE OUT does\n\
+            pipegraph: s.graph:4: \"o\" has no frames, so what it writes to \"o.wav\" is an \
+            empty WAV file: it was active in no cycle since it got its format; \
+            in the last cycle \"p\" drove, and no links of nodes that were on joined the two; \
+            not every link of the script was made",
+        ..RUN
+    },
+    // A sink that is off, one that is linked after the last cycle, and one that drove before that.
+    Asked {
+        script: b"square a 48000 1 2 5\nsink o o.wav\nlink a.out o.in\noff o\ncycles 1\n",
+        code: 0,
+        out: b"link a.out o.in 48000 1 2\nwrote o 0\n",
+        said: b"s.graph:2: \"o\" has no frames, so what it writes to \"o.wav\" is an empty \
+            WAV file: it was active in no cycle since it got its format; \
+            in the last cycle it had no link whose nodes were both on",
+        ..RUN
+    },
+    Asked {
+        script: b"quantum 2\nsource s s.wav\nsink o o.wav\nsink p p.wav\nlink s.out o.in\ndrain\n\
+            link s.out p.in\ndrain\n",
+        code: 0,
+        out: b"link s.out o.in 48000 1 2\nlink s.out p.in 48000 1 2\nwrote o 4\nwrote p 0\n",
+        said: b"s.graph:4: \"p\" has no frames, so what it writes to \"p.wav\" is an empty \
+            WAV file: it was active in no cycle since it got its format; \
+            drain goes on only while an active source has frames left; \
+            in the last cycle it had no link whose nodes were both on",
+        ..RUN
+    },
+    Asked {
+        script: b"square a 48000 1 2 5\nsink o o.wav\ndriver o 1\ncycles 1\nlink a.out o.in\n",
+        code: 0,
+        out: b"link a.out o.in 48000 1 2\nwrote o 0\n",
+        said: b"s.graph:2: \"o\" has no frames, so what it writes to \"o.wav\" is an empty \
+            WAV file: it was active in no cycle since it got its format",
         ..RUN
     },
     Asked {
