@@ -1,5 +1,5 @@
 -- A mixer of which the script links one input alone, in words. Source: this project's own.
-use Rattle.std.specs.Prelude.{ℕ, Bool, true, false, List, [], ◌++◌, codes, flat_map, if◌then◌else◌}
+use Rattle.std.specs.Prelude.{ℕ, Bool, true, false, List, [], ◌++◌, codes, flat_map}
 use Rattle.std.specs.List.{list_any}
 use Rattle.pw_graph.specs.declared.ids.PortId.{PortId}
 use Rattle.pw_graph.specs.Pools.{is_same_port}
