@@ -1,7 +1,7 @@
 //! Runs the plan of a script.
 #![tactic(auto, using(crate::proofs::AllowedLemmas::parts))]
 
-ghost use Rattle.std.specs.Prelude.{◌≡◌, ◌≤◌, IfOk, OnErr, length};
+ghost use Rattle.std.specs.Prelude.{◌≡◌, ◌≤◌, All, IfOk, OnErr, false, length};
 ghost use Rattle.ready_queues.specs.Lanes.{loops_limit};
 ghost use Rattle.cycle_model.specs.Rendering.{rendered_sinks, rendered_peaks};
 ghost use Rattle.graph_run.specs.PlanRun.{IsRunOf};
@@ -43,6 +43,7 @@ fn run_by<R: Threads + Wait + Sync, G: Gate + Sync, K: Ticker>(
     requires planned { IsPlayable planned.now }
     requires few { crew.loops ≤ loops_limit }
     requires adopt { length adopt.now ≡ crew.loops }
+    requires none { All (λ b. b ≡ false) adopt.now }
     ensures sinks { IfOk result
         (λ r. r.0.sinks ≡ rendered_sinks planned.now.plan planned.now.waves) }
     ensures peaks { IfOk result
