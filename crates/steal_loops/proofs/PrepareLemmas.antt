@@ -17,19 +17,19 @@ use Rattle.ready_queues.specs.declared.start_view.StartView.{StartView}
 use Rattle.ready_queues.specs.Opening.{IsNewWay}
 use Rattle.data_loop.specs.declared.loop_state.LoopState.{LoopState}
 use Rattle.data_loop.specs.LoopStart.{IsLoopOf}
-use Rattle.graph_run.specs.declared.seating.Seating.{Seating}
+use Rattle.graph_run.specs.declared.opening.OpenedRun.{OpenedRun}
 use Rattle.graph_run.specs.Assignment.{cell_number, cell_count}
 use Rattle.graph_run.specs.Loops.{AreLoopsOf}
 use Rattle.graph_run.specs.LoopsOnPlan.{IsReady, AreReady, AreFirstLeads}
+use Rattle.graph_run.specs.OpenedRun.{IsOpenedBy}
 use Rattle.graph_run.specs.Seating.{IsSeating, nodes_of_loop}
 use Rattle.graph_run.proofs.ReadyLemmas.{short, own_is, own_ready, own_has, others_ready, others_none, is_in}
 use Rattle.steal_shelf.specs.NewShelf.{IsFirstCell, AreOfOneRun}
 use Rattle.steal_shelf.specs.Seats.{cells_of}
-use Rattle.steal_loops.specs.declared.opening.Opened.{Opened}
 use Rattle.steal_loops.specs.declared.shared.Shared.{Shared}
 use Rattle.steal_loops.specs.declared.claimant.Claimant.{Claimant}
 use Rattle.steal_loops.specs.working.Cells.{IsCellFor, AreCells}
-use Rattle.steal_loops.specs.working.Crews.{IsOpened, CanDrive, HasNode}
+use Rattle.steal_loops.specs.working.Crews.{CanDrive, HasNode}
 use Rattle.steal_loops.specs.working.NodeSets.{AreCelled}
 use Rattle.steal_loops.specs.working.Claimants.{IsUnusedSeat, IsClaimant, IsNewWorker, IsDriverClaimant, IsWorkersWay}
 use Rattle.steal_loops.proofs.OneNodeLemmas.{one_node}
@@ -53,7 +53,7 @@ back P xs x h = let long = length-append xs (x ∷ []) in subst P (get_or_push x
 pub few_nodes : (plan : Plan) → IsSoundPlan plan → length plan.nodes ≤ nodes_limit
 few_nodes plan sound = sound.few
 
-module _ (plan : Plan) (waves : List WavIn) (o : Opened) (opened : IsOpened plan waves o) where
+module _ (plan : Plan) (waves : List WavIn) (o : OpenedRun) (opened : IsOpenedBy plan waves (cell_number plan) (cell_count plan) o) where
   abbrev cells : ℕ
   cells = cell_count plan
 
@@ -61,7 +61,7 @@ module _ (plan : Plan) (waves : List WavIn) (o : Opened) (opened : IsOpened plan
   boards = o.boards
 
   abbrev xs : List LoopState
-  xs = o.cells
+  xs = o.loops
 
   abbrev own : LoopState
   own = o.own
@@ -128,11 +128,11 @@ pub new_worker : (shared : Shared) → AreCells shared → (t : Claimant) → Is
 new_worker shared cells t seat way none = ((new_claimant shared cells t seat way.0 none, way.1), way.2)
 
 -- THE CELLS on the shelf, and the driver's thread
-module _ (plan : Plan) (waves : List WavIn) (o : Opened) (opened : IsOpened plan waves o) (shared : Shared) (boards_are : shared.boards ≡ o.boards)
-    (plan_is : shared.run_model.plan.value ≡ plan) (waves_are : shared.run_model.waves.value ≡ waves) where
-  cell_for : (i : ℕ) (d : LoopState) → i < length o.cells → IsCellFor shared (get_or o.cells i d)
+module _ (plan : Plan) (waves : List WavIn) (o : OpenedRun) (opened : IsOpenedBy plan waves (cell_number plan) (cell_count plan) o)
+    (shared : Shared) (boards_are : shared.boards ≡ o.boards) (plan_is : shared.run_model.plan.value ≡ plan) (waves_are : shared.run_model.waves.value ≡ waves) where
+  cell_for : (i : ℕ) (d : LoopState) → i < length o.loops → IsCellFor shared (get_or o.loops i d)
   cell_for i d low = let n = cell_count plan in
-      let r = subst (λ (l : List Board). IsReady l (get_or o.cells i d)) (sym boards_are) (others_ready o.boards n o.cells o.own opened.ready i d low) in
+      let r = subst (λ (l : List Board). IsReady l (get_or o.loops i d)) (sym boards_are) (others_ready o.boards n o.loops o.own opened.ready i d low) in
       let is = cell_is plan waves o opened i d low in record {
         loop = r.between.loop;
         boards_are = record {
@@ -140,25 +140,25 @@ module _ (plan : Plan) (waves : List WavIn) (o : Opened) (opened : IsOpened plan
           shape = r.boards_are.shape;
           seat = λ j b g past here at. r.boards_are.seat j b g here at;
         };
-        none = others_none o.boards n o.cells o.own opened.ready i d low;
+        none = others_none o.boards n o.loops o.own opened.ready i d low;
         plan_is = is.plan_is ∙ sym plan_is;
         waves_are = is.waves_are ∙ sym waves_are;
       }
 
-  pub are_cells : cells_of shared.shelf ≡ o.cells → shared.seating ≡ o.seating → cell_count plan ≤ nodes_limit
+  pub are_cells : cells_of shared.shelf ≡ o.loops → shared.seating.loops ≡ cell_count plan → cell_count plan ≤ nodes_limit
       → AreCelled shared.seating shared.signs.celled → AreCells shared
-  are_cells is seating few celled = let loops = ap (λ (s : Seating). s.loops) (seating ∙ opened.seating) in record {
-    each = λ i c at. let here : slice_get o.cells i ≡ Some c = subst (λ (l : List LoopState). slice_get l i ≡ Some c) is at in
-        subst (IsCellFor shared) (get_or_from_slice_get o.cells i c c here) (cell_for i c (slice_get_within o.cells i c here));
+  are_cells is loops few celled = record {
+    each = λ i c at. let here : slice_get o.loops i ≡ Some c = subst (λ (l : List LoopState). slice_get l i ≡ Some c) is at in
+        subst (IsCellFor shared) (get_or_from_slice_get o.loops i c c here) (cell_for i c (slice_get_within o.loops i c here));
     count = ap (λ (l : List LoopState). length l) is ∙ (many plan waves o opened ∙ sym loops);
     few = omega (arith, loops, few);
     celled = celled;
   }
 
   pub drives : (claimant : Claimant) → IsDriverClaimant shared claimant → CanDrive shared (record { own = o.own; drivers = o.drivers; claimant = claimant })
-  drives claimant is = let n = cell_count plan in let mine = own_is o.boards n o.cells o.own opened.ready plan waves (cell_number plan) opened.rows opened.are in record {
-    ready = subst (λ (l : List Board). IsReady l o.own) (sym boards_are) (own_ready o.boards n o.cells o.own opened.ready);
-    has = own_has o.boards n o.cells o.own opened.ready;
+  drives claimant is = let n = cell_count plan in let mine = own_is o.boards n o.loops o.own opened.ready plan waves (cell_number plan) opened.rows opened.are in record {
+    ready = subst (λ (l : List Board). IsReady l o.own) (sym boards_are) (own_ready o.boards n o.loops o.own opened.ready);
+    has = own_has o.boards n o.loops o.own opened.ready;
     leads = subst (λ (l : List Board). AreFirstLeads o.own.run_model l o.drivers) (sym boards_are) (opened.leads o.own.run_model mine.plan_is mine.waves_are);
     claimant = is;
     plan_is = mine.plan_is ∙ sym plan_is;

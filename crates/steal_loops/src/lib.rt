@@ -14,7 +14,6 @@ mod counts;
 mod crew;
 mod epoch;
 mod leading;
-mod opening;
 mod preparing;
 mod ready;
 mod rounds;

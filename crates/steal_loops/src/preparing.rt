@@ -9,11 +9,10 @@ ghost use Rattle.steal_loops.specs.working.Claimants.{IsUnusedSeat, IsNewWorker,
 
 use crate::claimant::Claimant;
 use crate::leading::Driving;
-use crate::opening::{Opened, open_plan};
 use crate::shared::Shared;
 use crate::signs::Signs;
 use data_loop::Way;
-use graph_run::ways_of;
+use graph_run::{OpenedRun, cell_seating, open_run, ways_of};
 use node_progress::RunModel;
 use pw_graph::Plan;
 use pw_lists::{Items, Memory};
@@ -70,13 +69,13 @@ pub(crate) fn prepare(
     requires few { loops ≤ loops_limit }
     ensures { IfOk result (IsPrepared plan.now waves.now loops) }
 {
-    let Opened {
-        seating,
+    let seating = cell_seating(alloc, plan)?;
+    let OpenedRun {
         boards,
         drivers,
-        cells,
+        loops: cells,
         own,
-    } = open_plan(alloc, plan, waves)?;
+    } = open_run(alloc, plan, waves, &seating)?;
     let (ways, way, others) = ways_of(alloc, plan, loops)?;
     let (shelf, mut seats) = Shelf::new(alloc, cells, loops + 1)?;
     let seat = seats.pop().unwrap();
