@@ -6,6 +6,8 @@
 
 mod group;
 #[cfg(test)]
+mod numbers;
+#[cfg(test)]
 mod refusals;
 #[cfg(test)]
 mod runs;

@@ -13,22 +13,32 @@ use std::test::Fail;
 use std::thread::Threads;
 use wav_files::Outcome;
 
-/// Refuses the start of the part of one place, or that of each.
+/// Refuses the start of the part of one place, those of two, or that of each.
 #[derive(Drop)]
-struct Refusing {
+pub(crate) struct Refusing {
     each: bool,
     place: u32,
+    other: u32,
 }
 
 impl Refusing {
-    fn one(place: u32) -> Refusing {
-        Refusing { each: false, place }
+    pub(crate) fn one(place: u32) -> Refusing {
+        Refusing::two(place, place)
     }
 
-    fn all() -> Refusing {
+    pub(crate) fn two(place: u32, other: u32) -> Refusing {
+        Refusing {
+            each: false,
+            place,
+            other,
+        }
+    }
+
+    pub(crate) fn all() -> Refusing {
         Refusing {
             each: true,
             place: 0,
+            other: 0,
         }
     }
 }
@@ -36,10 +46,10 @@ impl Refusing {
 impl Starts for Refusing {
     ghost use Rattle.std.specs.Prelude.{◌==◌, ◌||◌};
 
-    ghost refused = { λ s number. s.each || (number == s.place) };
+    ghost refused = { λ s number. s.each || ((number == s.place) || (number == s.other)) };
 
     fn refuses(&self, number: u32) -> bool {
-        self.each || number == self.place
+        self.each || number == self.place || number == self.other
     }
 }
 
