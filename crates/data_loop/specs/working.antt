@@ -1,5 +1,5 @@
-pub mod Dealt
 -- How a turn on links and on pools goes on, and what a loop passes on. Source: this project's own.
+pub mod Dealt
 pub mod Inputs
 pub mod Giving
 pub mod ReadingInputs

@@ -1,5 +1,5 @@
 //! How the members of a loop in an epoch are made.
-ghost use Rattle.std.specs.Prelude.{◌≡◌, ◌≤◌, IfOk, length};
+ghost use Rattle.std.specs.Prelude.{◌≡◌, ◌≤◌, ◌++◌, ◌∷◌, [], IfOk, OnOk, length};
 ghost use Rattle.std.specs.List.{list_any};
 ghost use Rattle.pw_lists.specs.Limits.{nodes_limit, links_limit};
 ghost use Rattle.pw_graph.specs.KindPorts.{input_count};
@@ -188,6 +188,16 @@ fn has_role(epoch: &Epoch, node: u32, leads: bool) -> bool
     }
 }
 
+// Appends a member. Where it is the only one, its list has no room for more.
+fn add(members: &mut Items<Member>, member: Member, is_only: bool) -> Result<(), Memory>
+    ensures { OnOk result (members.new ≡ members.old ++ member ∷ []) }
+{
+    if is_only {
+        members.reserve(1)?;
+    }
+    members.push(member)
+}
+
 /// Of the loop's nodes the followers of an epoch, or, where `leads`, the driver that works in it,
 /// each with its links and pools. `pools` are those of the epoch's shape.
 pub(crate) fn members_by(
@@ -211,7 +221,8 @@ pub(crate) fn members_by(
     for at in 0..nodes.len() {
         let node = nodes[at];
         if has_role(epoch, node, leads) {
-            members.push(member_of(alloc, plan, epoch, pools, dealt.as_slice(), node, at as u32)?)?;
+            let member = member_of(alloc, plan, epoch, pools, dealt.as_slice(), node, at as u32)?;
+            add(&mut members, member, readers == 1)?;
         }
     }
     Ok(members)

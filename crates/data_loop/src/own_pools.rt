@@ -63,13 +63,16 @@ fn copy_of(alloc: Global, pool: &PoolShape) -> Result<PoolShape, Memory>
     })
 }
 
-// Those of the pools that these nodes fill.
+// Those of the pools that these nodes fill. A node alone fills one or two: each has its own room.
 fn shapes_of(alloc: Global, nodes: &[u32], pools: &[PoolShape]) -> Result<Items<PoolShape>, Memory>
     ensures { IfOk result (λ shapes. shapes ≡ own_pools nodes.now pools.now) }
 {
     let mut shapes = Items::new(alloc);
     for pool in pools {
         if is_among(nodes, pool.port.node) {
+            if nodes.len() == 1 {
+                shapes.reserve(1)?;
+            }
             shapes.push(copy_of(alloc, pool)?)?;
         }
     }
