@@ -2,6 +2,7 @@ pub mod OwnPools
 pub mod PlanPools
 pub mod turns
 pub mod Gathering
+pub mod Dealt
 pub mod Members
 pub mod Rooms
 pub mod EpochStates

@@ -1,5 +1,4 @@
 -- How a turn on links and on pools goes on, and what a loop passes on. Source: this project's own.
-pub mod Dealt
 pub mod Inputs
 pub mod Giving
 pub mod ReadingInputs

@@ -1,14 +1,16 @@
 //! A loop while its epochs are added.
-ghost use Rattle.std.specs.Prelude.{◌≡◌, ◌+◌, ℕ, List, IfOk};
+ghost use Rattle.std.specs.Prelude.{◌≡◌, ◌+◌, ℕ, List, IfOk, length};
 ghost use Rattle.pw_graph.specs.SoundPlan.{IsSoundPlan};
 ghost use Rattle.pw_graph.specs.declared.plan.Plan.{Plan};
 ghost use Rattle.board_rule.specs.Known.{Known};
 ghost use Rattle.cycle_model.specs.WavesFit.{WavesFit};
+ghost use Rattle.data_loop.specs.Dealt.{AreLinksIn};
 ghost use Rattle.data_loop.specs.Drafts.{HasFirst, HasAll, LacksEpochs, seats_of};
 ghost use Rattle.data_loop.specs.Loops.{IsBetweenEpochs};
 ghost use Rattle.data_loop.specs.LoopStart.{IsLoopOf};
 ghost use Rattle.data_loop.specs.PlanPools.{pools_in};
 
+use crate::dealing::DealtLinks;
 use crate::epoch_state::EpochState;
 use crate::epoch_states::epoch_state_of;
 use crate::loop_state::LoopState;
@@ -48,16 +50,18 @@ impl LoopDraft {
         })
     }
 
-    /// Adds the next epoch. `pools` are those of each epoch.
+    /// Adds the next epoch. `pools` are those of each epoch, `links` those of this one.
     pub fn add_epoch(
         &mut self,
         alloc: Global,
         plan: &Plan,
         pools: &[Items<PoolShape>],
+        links: &DealtLinks,
     ) -> Result<(), Memory>
         requires sound { IsSoundPlan plan.now }
         requires lacks { LacksEpochs plan.now self.old }
         requires pools { pools.now ≡ pools_in plan.now }
+        requires links { AreLinksIn plan.now (length self.old.epoch_states) links.now }
         ensures { IfOk result (λ _. (nodes : List ℕ) (seats : List Known) (n : ℕ)
             → HasFirst plan.now nodes seats n self.old
             → HasFirst plan.now nodes seats (n + 1) self.new) }
@@ -65,7 +69,7 @@ impl LoopDraft {
         if let Some(seat) = self.seats.next() {
             let epoch = self.epoch_states.len();
             let nodes = self.nodes.as_slice();
-            let state = epoch_state_of(alloc, plan, nodes, epoch, pools, seat)?;
+            let state = epoch_state_of(alloc, plan, nodes, epoch, pools, links, seat)?;
             self.epoch_states.push(state)?;
         }
         Ok(())

@@ -35,6 +35,7 @@ mod tables;
 mod tried;
 mod turn_context;
 
+pub use dealing::{DealtLinks, links_in};
 pub use did::Did;
 pub use draft::LoopDraft;
 pub use driving::pass_driver;

@@ -7,6 +7,7 @@ ghost use Rattle.data_loop.specs.Loops.{IsBetweenEpochs};
 ghost use Rattle.data_loop.specs.LoopStart.{AreFirstStates, IsLoopOf};
 ghost use Rattle.data_loop.specs.PlanPools.{pools_in};
 
+use crate::dealing::links_in;
 use crate::draft::LoopDraft;
 use crate::epoch_state::EpochState;
 use crate::plan_pools::pools_in;
@@ -125,8 +126,9 @@ impl LoopState {
         ensures woke { IfOk result (λ s. s.woke ≡ 0) }
     {
         let mut draft = LoopDraft::new(alloc, nodes.copy(alloc)?, seats)?;
-        for _ in 0..plan.epochs.len() {
-            draft.add_epoch(alloc, plan, pools)?;
+        for epoch in 0..plan.epochs.len() {
+            let links = links_in(alloc, plan, epoch)?;
+            draft.add_epoch(alloc, plan, pools, &links)?;
         }
         draft.finish(alloc, plan, waves)
     }

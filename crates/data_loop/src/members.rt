@@ -7,20 +7,16 @@ ghost use Rattle.pw_graph.specs.PlanForms.{kind_at};
 ghost use Rattle.pw_graph.specs.Pools.{pools_of, is_same_port};
 ghost use Rattle.cycle_model.specs.Epochs.{channels_of};
 ghost use Rattle.data_loop.specs.turns.Ends.{fills_of};
-ghost use Rattle.data_loop.specs.working.Dealt.{AreDealt};
+ghost use Rattle.data_loop.specs.Dealt.{AreDealt};
 ghost use Rattle.data_loop.specs.Gathering.{inputs_of};
 ghost use Rattle.data_loop.specs.Members.{input_width, is_read, output_width, member_of, has_role, members_by};
 
-use crate::dealing::deal;
 use crate::inputs::Input;
 use crate::member::Member;
 use node_progress::{takes_part, works_in};
 use pw_graph::{Epoch, Plan, PoolShape, PortForm, PortId, Shape, is_same_port};
 use pw_lists::{Items, Memory};
 use std::alloc::Global;
-
-// For so few nodes a look at each link takes no longer than to deal them.
-const FEW: usize = 4;
 
 // The links into a node, each with its input, ascending, by a look at each link.
 fn inputs_of(alloc: Global, shape: &Shape, node: u32) -> Result<Items<Input>, Memory>
@@ -55,18 +51,6 @@ fn inputs_among(
     match dealt.get(node as usize) {
         Some(inputs) => inputs.copy(alloc),
         None => inputs_of(alloc, shape, node),
-    }
-}
-
-// The links dealt to their nodes where many nodes read them, or nothing.
-fn dealt_to(alloc: Global, shape: &Shape, nodes: usize) -> Result<Items<Items<Input>>, Memory>
-    requires few { length shape.now.links ≤ links_limit }
-    ensures { IfOk result (AreDealt shape.now) }
-{
-    if nodes <= FEW {
-        Ok(Items::new(alloc))
-    } else {
-        deal(alloc, shape)
     }
 }
 
@@ -199,30 +183,31 @@ fn add(members: &mut Items<Member>, member: Member, is_only: bool) -> Result<(),
 }
 
 /// Of the loop's nodes the followers of an epoch, or, where `leads`, the driver that works in it,
-/// each with its links and pools. `pools` are those of the epoch's shape.
+/// each with its links and pools. `pools` are those of the epoch's shape, `dealt` its links.
 pub(crate) fn members_by(
     alloc: Global,
     plan: &Plan,
     epoch: &Epoch,
     pools: &[PoolShape],
+    dealt: &[Items<Input>],
     nodes: &[u32],
     leads: bool,
 ) -> Result<Items<Member>, Memory>
     requires few { (length epoch.now.shape.links ≤ links_limit)
         × (length pools.now ≤ links_limit) }
     requires pools { pools.now ≡ pools_of epoch.now.shape }
+    requires dealt { AreDealt epoch.now.shape dealt.now }
     requires places { length nodes.now ≤ nodes_limit }
     ensures { IfOk result
         (λ members. members ≡ members_by plan.now nodes.now epoch.now leads) }
 {
-    let readers = if leads { 1 } else { nodes.len() };
-    let dealt = dealt_to(alloc, &epoch.shape, readers)?;
+    let is_only = leads || nodes.len() == 1;
     let mut members = Items::new(alloc);
     for at in 0..nodes.len() {
         let node = nodes[at];
         if has_role(epoch, node, leads) {
-            let member = member_of(alloc, plan, epoch, pools, dealt.as_slice(), node, at as u32)?;
-            add(&mut members, member, readers == 1)?;
+            let member = member_of(alloc, plan, epoch, pools, dealt, node, at as u32)?;
+            add(&mut members, member, is_only)?;
         }
     }
     Ok(members)

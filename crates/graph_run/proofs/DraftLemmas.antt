@@ -73,6 +73,9 @@ module _ (plan : Plan) (f : ℕ → ℕ) (rows : List (List Known)) (n : ℕ) (d
     each = λ k d low. more.grown k d (omega (arith, low, long)) (nodes_of_loop f plan k) (get_or rows k []) n (are.each k d low);
   }
 
+  pub all_next : All (λ (d : LoopDraft). length d.epoch_states ≡ n) drafts
+  all_next = λ k d low. let same = are.count in (are.each k d (omega (arith, low, same))).count
+
   module _ (long : All (λ (row : List Known). length row ≡ length plan.epochs) rows) where
     pub all_lack : length plan.nodes ≤ nodes_limit → n < length plan.epochs → All (LacksEpochs plan) drafts
     all_lack few less = λ k d low. let same = are.count in let here : k < length rows = omega (arith, low, same) in

@@ -1,5 +1,5 @@
 //! The loops of a run.
-ghost use Rattle.std.specs.Prelude.{◌≡◌, ◌≤◌, ◌+◌, All, IfOk, length, map};
+ghost use Rattle.std.specs.Prelude.{◌≡◌, ◌<◌, ◌≤◌, ◌+◌, All, IfOk, length, map};
 ghost use Rattle.std.specs.List.{AllZip};
 ghost use Rattle.pw_lists.specs.Limits.{nodes_limit};
 ghost use Rattle.pw_graph.specs.SoundPlan.{IsSoundPlan};
@@ -13,7 +13,7 @@ ghost use Rattle.graph_run.specs.working.Drafts.{AreDrafts, AreGrown, IsLoopFrom
 
 use crate::seating::{Seating, nodes_of_loop};
 use board_rule::LoopSeat;
-use data_loop::{LoopDraft, LoopState, pools_in};
+use data_loop::{LoopDraft, LoopState, links_in, pools_in};
 use pw_graph::{Plan, PoolShape};
 use pw_lists::{Items, Memory, Room};
 use std::alloc::Global;
@@ -42,21 +42,25 @@ fn drafts_of(
     Ok(drafts.into_vec())
 }
 
-// Adds the next epoch to each loop.
+// Adds the epoch to each loop, which has all before it. Its links are dealt once.
 fn add_epoch(
     alloc: Global,
     plan: &Plan,
+    epoch: usize,
     pools: &[Items<PoolShape>],
     drafts: &mut Vec<LoopDraft>,
 ) -> Result<(), Memory>
     requires sound { IsSoundPlan plan.now }
+    requires inside { epoch < length plan.now.epochs }
+    requires next { All (λ d. length d.epoch_states ≡ epoch) drafts.old.items }
     requires pools { pools.now ≡ pools_in plan.now }
     requires lack { All (LacksEpochs plan.now) drafts.old.items }
     ensures { IfOk result (λ _. AreGrown plan.now (length drafts.old.items) drafts.old.items
         drafts.new.items) }
 {
+    let links = links_in(alloc, plan, epoch)?;
     for i in 0..drafts.len() {
-        drafts[i].add_epoch(alloc, plan, pools)?;
+        drafts[i].add_epoch(alloc, plan, pools, &links)?;
     }
     Ok(())
 }
@@ -137,8 +141,8 @@ pub fn loops_with_pools(
         (AreReadyOnBoards plan.now waves.now seating.now (map (λ row. row.list) seats.items)) }
 {
     let mut drafts = drafts_of(alloc, plan, seating, seats)?;
-    for _ in 0..plan.epochs.len() {
-        add_epoch(alloc, plan, pools, &mut drafts)?;
+    for epoch in 0..plan.epochs.len() {
+        add_epoch(alloc, plan, epoch, pools, &mut drafts)?;
     }
     let states = finish_all(alloc, plan, waves, drafts)?;
     Ok(states)

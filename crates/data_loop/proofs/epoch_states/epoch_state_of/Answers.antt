@@ -5,6 +5,8 @@ use Rattle.pw_graph.specs.declared.plan.Epoch.{Epoch}
 use Rattle.pw_graph.specs.declared.pools.PoolShape.{PoolShape}
 use Rattle.pw_graph.specs.Pools.{pools_of}
 use Rattle.io_areas.specs.FreeBlocks.{free_at_start}
+use Rattle.data_loop.specs.declared.inputs.Input.{Input}
+use Rattle.data_loop.specs.Dealt.{AreDealt}
 use Rattle.data_loop.specs.OwnPools.{own_pools, own_places}
 use Rattle.data_loop.specs.Members.{members_of, drivers_of}
 use Rattle.data_loop.proofs.PlanPoolsLemmas.{pooled_here, pools_here}
@@ -23,6 +25,12 @@ members_by-requires-clause-few c =
     ∙ pools_here plan k e low here c.args.pools.now c.index-pools-epoch.result c.requires.pools c.index-pools-epoch.is in
     ((few_ends e.shape pooled).0, subst (λ (l : List PoolShape). length l ≤ 256) (sym pools) (few_ends e.shape pooled).1)
 
+pub members_by-requires-clause-dealt : goal.members_by-requires-clause-dealt
+members_by-requires-clause-dealt c =
+    let k = c.args.epoch in let e : Epoch = c.index-as_slice-epoch.result in
+    let here : e ≡ get_or c.args.plan.now.epochs k e = c.index-as_slice-epoch.is ∙ ap (λ (l : List Epoch). get_or l k e) c.as_slice.ensures in
+    subst (λ (x : Epoch × List (List Input)). AreDealt x.0.shape x.1) (λ i. (sym here i, sym c.as_slice-dealt.ensures i)) (c.requires.links e)
+
 pub members_by-requires-clause-pools : goal.members_by-requires-clause-pools
 members_by-requires-clause-pools c =
     let plan = c.args.plan.now in let k = c.args.epoch in let e : Epoch = c.index-as_slice-epoch.result in let low = c.requires.inside in
@@ -39,6 +47,12 @@ members_by-requires-2-clause-few c =
     let pools : c.as_slice-pools.result.now ≡ pools_of e.shape = c.as_slice-pools.ensures
     ∙ pools_here plan k e low here c.args.pools.now c.index-pools-epoch.result c.requires.pools c.index-pools-epoch.is in
     ((few_ends e.shape pooled).0, subst (λ (l : List PoolShape). length l ≤ 256) (sym pools) (few_ends e.shape pooled).1)
+
+pub members_by-requires-2-clause-dealt : goal.members_by-requires-2-clause-dealt
+members_by-requires-2-clause-dealt c =
+    let k = c.args.epoch in let e : Epoch = c.index-as_slice-epoch.result in
+    let here : e ≡ get_or c.args.plan.now.epochs k e = c.index-as_slice-epoch.is ∙ ap (λ (l : List Epoch). get_or l k e) c.as_slice.ensures in
+    subst (λ (x : Epoch × List (List Input)). AreDealt x.0.shape x.1) (λ i. (sym here i, sym c.as_slice-dealt.ensures i)) (c.requires.links e)
 
 pub members_by-requires-2-clause-pools : goal.members_by-requires-2-clause-pools
 members_by-requires-2-clause-pools c =

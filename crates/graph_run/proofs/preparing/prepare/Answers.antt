@@ -23,6 +23,8 @@ returns c = let plan = c.args.plan.now in let waves = c.args.waves.now in let lo
       waves_are = v;
       shapes = opened.shapes;
       drivers = opened.drivers;
+      owner = w.owner;
+      loops_are = w.loops;
       can_start = all_start plan waves loops shared xs own rows ready are p v w.owner w.loops c.in_ok-ways.others w.ways c.in_ok-loops.loops
           pairs.states pairs.ways;
       can_drive = drives plan waves loops shared xs own rows ready are p v w.owner w.loops o.drivers c.in_ok-ways.way
