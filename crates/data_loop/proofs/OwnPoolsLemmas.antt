@@ -1,10 +1,12 @@
 -- The pools of a loop's nodes among those of an epoch: each has a place of its own.
-use Rattle.std.proofs.Common.{◌≡◌, ℕ, zero, suc, ◌+◌, ◌-◌, ◌<◌, ◌≤◌, Bool, true, false, cond, List, [], ◌∷◌, ◌++◌, length, map, get_or, take, filter}
+use Rattle.std.proofs.Common.{◌≡◌, ◌≢◌, ℕ, zero, suc, ◌+◌, ◌-◌, ◌<◌, ◌≤◌, Bool, true, false, true≢false, not, cond, List, [], ◌∷◌, ◌++◌, length, map, get_or, take, filter, ltb, Some, None, unwrap_or}
 use Rattle.std.proofs.Common.{append-nil, refl, sym, ap, ◌∙◌, subst, arith, ⊎_elim}
 use Rattle.std.specs.Prelude.{set, replicate}
-use Rattle.std.specs.List.{enumerate_from}
-use Rattle.std.proofs.lemmas.Bool.{cases_Bool, cases_order}
-use Rattle.std.proofs.lemmas.List.{get_or-map, length-map, length-take-le, map_more, take_all}
+use Rattle.std.specs.List.{enumerate_from, position_or_len}
+use Rattle.std.proofs.lemmas.Bool.{cases_Bool, cases_order, cases_lt, lt-ltb, le-ltb}
+use Rattle.std.proofs.lemmas.List.{ext_get_or, get_or-map, get_or-replicate, get_or-set_other, length-map, length-replicate, length-set, length-take-le, map_more, take_all}
+use Rattle.std.proofs.lemmas.Grind.{get_or-set_at}
+use Rattle.std.proofs.lemmas.List.Sums.{prefix_len-le-length, prefix_len_stops}
 use Rattle.std.proofs.lemmas.List.Filters.{length-filter_more}
 use Rattle.std.proofs.lemmas.List.FromFn.{length-enumerate_from, get_or-enumerate_from}
 use Rattle.pw_graph.specs.declared.pools.PoolShape.{PoolShape}
@@ -73,6 +75,39 @@ module _ {X : Type 0} (p : X → Bool) where
       (⊎_elim (λ less. let n = before_later xs i j d less a passes in absurd (omega (arith, n, is)))
       (λ more. let n = before_later xs j i d more b too in absurd (omega (arith, n, is))))
       (cases_order i j)
+
+  -- the first that passes, or how many there are where none does; where one at most passes it is this one
+  abbrev first_at : List X → ℕ
+  first_at xs = position_or_len p xs
+
+  pub first_within : (xs : List X) → first_at xs ≤ length xs
+  first_within xs = prefix_len-le-length (λ x. not (p x)) xs
+
+  pub first_found : (xs : List X) → unwrap_or (cond (ltb (first_at xs) (length xs)) (Some (first_at xs)) None) (length xs) ≡ first_at xs
+  first_found xs = let few = first_within xs in ⊎_elim
+      (λ low. ap (λ b. unwrap_or (cond b (Some (first_at xs)) None) (length xs)) (lt-ltb (first_at xs) (length xs) low))
+      (λ past. ap (λ b. unwrap_or (cond b (Some (first_at xs)) None) (length xs)) (le-ltb (first_at xs) (length xs) past)
+      ∙ omega (arith, few, past))
+      (cases_lt (first_at xs) (length xs))
+
+  first_passes : (xs : List X) (d : X) → first_at xs < length xs → p (get_or xs (first_at xs) d) ≡ true
+  first_passes xs d low = let stops = prefix_len_stops (λ x. not (p x)) xs d low in ⊎_elim (λ passes. passes)
+      (λ miss. absurd (true≢false (sym (ap not miss) ∙ stops)))
+      (cases_Bool (p (get_or xs (first_at xs) d)))
+
+  first_least : (xs : List X) (i : ℕ) (d : X) → i < length xs → p (get_or xs i d) ≡ true → first_at xs ≤ i
+  first_least [] i d low passes = absurd (omega (arith, low))
+  first_least (x ∷ xs) zero d low passes = let none = ap {B = ℕ} (λ b. cond (not b) (1 + first_at xs) 0) passes in omega (arith, none)
+  first_least (x ∷ xs) (suc i) d low passes = let rest = first_least xs i d (omega (arith, low)) passes in by (p x) rest
+    where
+      by : (b : Bool) → first_at xs ≤ i → cond (not b) (1 + first_at xs) 0 ≤ suc i
+      by true rest = omega arith
+      by false rest = omega (arith, rest)
+
+  only_first : (xs : List X) (i : ℕ) (d : X) → length (filter p xs) ≤ 1 → i < length xs → p (get_or xs i d) ≡ true → i ≡ first_at xs
+  only_first xs i d one low passes = let least = first_least xs i d low passes in let there : first_at xs < length xs = omega (arith, least, low) in
+      let too = first_passes xs d there in let a = before_end xs i d low passes in let b = before_end xs (first_at xs) d there too in
+      same_place xs i (first_at xs) d low there passes too (omega (arith, one, a, b))
 
 pub own_more : (nodes : List ℕ) (pools : List PoolShape) (i : ℕ) (d : PoolShape) → i < length pools
     → length (own_pools nodes (take (i + 1) pools)) ≡ length (own_pools nodes (take i pools)) + cond (is_own nodes (get_or pools i d)) 1 0
@@ -154,6 +189,41 @@ placed_all nodes pools k past = let long = length-enumerate_from 0 pools in let 
     ap (λ m. map (own_place nodes pools) (take k (enumerate_from 0 pools)) ++ replicate m (length (own_pools nodes pools))) none
     ∙ append-nil _ ∙ ap (map (own_place nodes pools)) (take_all k (enumerate_from 0 pools) (omega (arith, long, past)))
 
+-- the place of one pool
+pub place_in : (nodes : List ℕ) (pools : List PoolShape) (q : ℕ) (d : PoolShape) → q < length pools
+    → get_or (own_places nodes pools) q 0 ≡ own_place nodes pools (q, get_or pools q d)
+place_in nodes pools q d low = let long = length-enumerate_from 0 pools in let e : ℕ × PoolShape = (0, d) in
+    get_or-map (own_place nodes pools) (enumerate_from 0 pools) q e 0 (omega (arith, low, long))
+    ∙ ap (own_place nodes pools) (get_or-enumerate_from 0 pools q e low)
+    ∙ ap (λ n. own_place nodes pools (n, get_or pools q d)) (let z : 0 + q ≡ q = omega arith in z)
+
+-- where one pool at most is an own one, the first own one is at 0 and each other is past the end
+module _ (nodes : List ℕ) (pools : List PoolShape) (one : length (own_pools nodes pools) ≤ 1) where
+  abbrev lone : List ℕ
+  lone = set (replicate (length pools) (length (own_pools nodes pools))) (position_or_len (is_own nodes) pools) 0
+
+  lone_long : length lone ≡ length pools
+  lone_long = length-set (replicate (length pools) (length (own_pools nodes pools))) (position_or_len (is_own nodes) pools) 0
+      ∙ length-replicate (length pools) (length (own_pools nodes pools))
+
+  same_at : (q : ℕ) (d : PoolShape) → q < length pools → get_or lone q 0 ≡ own_place nodes pools (q, get_or pools q d)
+  same_at q d low = let all = length (own_pools nodes pools) in let first = position_or_len (is_own nodes) pools in
+      let long = length-replicate (length pools) all in ⊎_elim
+      (λ passes. let is = only_first (is_own nodes) pools q d one low passes in let few = before_end (is_own nodes) pools q d low passes in
+      let none : 0 ≡ length (own_pools nodes (take q pools)) = omega (arith, few, one) in
+      get_or-set_at (replicate (length pools) all) first q 0 0 is (omega (arith, is, low, long)) ∙ none
+      ∙ sym (ap (λ b. cond b (length (own_pools nodes (take q pools))) all) passes))
+      (λ miss. let other : q ≢ first = λ is. true≢false (sym (first_passes (is_own nodes) pools d (omega (arith, is, low)))
+      ∙ ap (λ n. is_own nodes (get_or pools n d)) (sym is) ∙ miss) in
+      get_or-set_other (replicate (length pools) all) first q 0 0 other ∙ get_or-replicate (length pools) q all 0 low
+      ∙ sym (ap (λ b. cond b (length (own_pools nodes (take q pools))) all) miss))
+      (cases_Bool (is_own nodes (get_or pools q d)))
+
+  pub lone_places : lone ≡ own_places nodes pools
+  lone_places = let long = length-map (enumerate_from 0 pools) (own_place nodes pools) ∙ length-enumerate_from 0 pools in
+      ext_get_or 0 lone (own_places nodes pools) (lone_long ∙ sym long) (λ q low. let l = lone_long in
+      let less : q < length pools = omega (arith, low, l) in same_at q no_pool less ∙ sym (place_in nodes pools q no_pool less))
+
 -- the pools of these nodes among all, as a loop has them
 module _ (nodes : List ℕ) (pools : List PoolShape) (own : OwnPools) (places : own.places ≡ own_places nodes pools)
     (shapes : own.shapes ≡ own_pools nodes pools) where
@@ -164,11 +234,7 @@ module _ (nodes : List ℕ) (pools : List PoolShape) (own : OwnPools) (places : 
   has_places = ap (λ (l : List ℕ). length l) places ∙ length-map (enumerate_from 0 pools) (own_place nodes pools) ∙ length-enumerate_from 0 pools
 
   place_is : (q : ℕ) → q < length pools → place_of own q ≡ own_place nodes pools (q, pool q)
-  place_is q low = let long = length-enumerate_from 0 pools in let d : ℕ × PoolShape = (0, no_pool) in
-      ap (λ (l : List ℕ). get_or l q 0) places
-      ∙ get_or-map (own_place nodes pools) (enumerate_from 0 pools) q d 0 (omega (arith, low, long))
-      ∙ ap (own_place nodes pools) (get_or-enumerate_from 0 pools q d low)
-      ∙ ap (λ n. own_place nodes pools (n, pool q)) (let z : 0 + q ≡ q = omega arith in z)
+  place_is q low = ap (λ (l : List ℕ). get_or l q 0) places ∙ place_in nodes pools q no_pool low
 
   long_is : length own.shapes ≡ length (own_pools nodes pools)
   long_is = ap (λ (l : List PoolShape). length l) shapes

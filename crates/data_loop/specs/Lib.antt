@@ -1,3 +1,4 @@
+pub mod Places
 pub mod OwnPools
 pub mod PlanPools
 pub mod turns

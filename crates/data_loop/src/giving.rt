@@ -41,7 +41,7 @@ pub(crate) fn give_all(
         AreWritten p seat.old.knows own.old pools.now seat.new.knows own.new }
 {
     for pool in pools {
-        let place = usize::from(own.places.as_slice()[*pool as usize]);
+        let place = own.places.at(*pool as usize);
         let shape = &own.shapes.as_slice()[place];
         let row = row_for(shape, first_output, left, right);
         write_output(

@@ -24,6 +24,7 @@ mod member;
 mod members;
 mod own_pools;
 mod passes;
+mod places;
 mod plan_pools;
 mod playing;
 mod progress;

@@ -2,8 +2,9 @@
 ghost use Rattle.std.specs.Prelude.{◌≡◌, ◌≤◌, All, IfOk, length, map};
 ghost use Rattle.pw_lists.specs.Limits.{links_limit, buffers_limit};
 ghost use Rattle.io_areas.specs.FreeBlocks.{free_at_start};
-ghost use Rattle.data_loop.specs.OwnPools.{is_among, own_pools, own_places, AreFirstPools};
+ghost use Rattle.data_loop.specs.OwnPools.{own_pools, AreFirstPools};
 
+use crate::places::{Places, is_among};
 use io_areas::{Pool, free_at_start};
 use pw_graph::{PoolShape, Shape};
 use pw_lists::{Items, Memory};
@@ -15,39 +16,9 @@ use std::alloc::Global;
 pub(crate) struct OwnPools {
     /// Of each pool of the epoch its place in the two lists; past their end where it is none of the
     /// loop's.
-    pub places: Items<u16>,
+    pub places: Places,
     pub shapes: Items<PoolShape>,
     pub free: Vec<Pool>,
-}
-
-// Whether a node is one of these.
-fn is_among(nodes: &[u32], node: u32) -> bool
-    ensures { result ≡ is_among nodes.now node }
-{
-    nodes.iter().any(|own| *own == node)
-}
-
-// The place of each pool: how many of the nodes' own are before it, or how many there are, which is
-// `count`.
-fn places_of(
-    alloc: Global,
-    nodes: &[u32],
-    pools: &[PoolShape],
-    count: u16,
-) -> Result<Items<u16>, Memory>
-    requires few { length pools.now ≤ links_limit }
-    requires count { count ≡ length (own_pools nodes.now pools.now) }
-    ensures { IfOk result (λ places. places ≡ own_places nodes.now pools.now) }
-{
-    let mut places = Items::filled(alloc, pools.len(), count)?.into_vec();
-    let mut before = 0;
-    for q in 0..pools.len() {
-        if is_among(nodes, pools[q].port.node) {
-            places[q] = before;
-            before += 1;
-        }
-    }
-    Ok(Items::from_vec(places))
 }
 
 // A copy of a pool.
@@ -105,7 +76,7 @@ pub(crate) fn pools_among(
 {
     let shapes = shapes_of(alloc, nodes, pools)?;
     let count = shapes.len() as u16;
-    let places = places_of(alloc, nodes, pools, count)?;
+    let places = Places::of(alloc, nodes, pools, count)?;
     let free = free_of(alloc, shape, shapes.as_slice())?.into_vec();
     Ok(OwnPools {
         places,

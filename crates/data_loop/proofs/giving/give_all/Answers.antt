@@ -27,9 +27,9 @@ write_output-requires-clause-links c = let p = layout_of c.args.board.now.board_
     let here = equipped_moves p _ _ w own i.room i.kept c.requires.equipped in
     let low = pool_in p plain _ _ c.args.pools.now c.requires.phase k _ _ c.loop-pool-test.true i in
     let owns = owns_it p plain _ _ c.args.pools.now c.requires.phase k _ _ c.loop-pool-test.true i here.lists in
-    let place : c.from-place.result ≡ place_of own q = c.from-place.ensures ∙ ap (λ (l : List ℕ). get_or l q 0) c.as_slice.ensures in
-    c.as_slice-in-loop-pool-2.ensures ∙ ap (λ (y : PoolShape). y.links) (c.index-as_slice-place.is
-    ∙ ap (λ (l : List PoolShape). get_or l c.from-place.result x) c.as_slice-in-loop-pool.ensures
+    let place : c.at-place.result ≡ place_of own q = c.at-place.ensures in
+    c.as_slice-in-loop-pool.ensures ∙ ap (λ (y : PoolShape). y.links) (c.index-as_slice-place.is
+    ∙ ap (λ (l : List PoolShape). get_or l c.at-place.result x) c.as_slice.ensures
     ∙ ap (λ n. get_or own.shapes n x) place ∙ get_or_default own.shapes (place_of own q) x no_pool owns ∙ here.shapes_are q low owns)
 
 pub write_output-requires-clause-blocks : goal.write_output-requires-clause-blocks
@@ -37,7 +37,7 @@ write_output-requires-clause-blocks c = let p = layout_of c.args.board.now.board
     let w : View = c.loop-pool.seat.knows in let own : OwnPools = c.loop-pool.own in let i = c.loop-pool.invariant.written in
     let k = c.loop-pool.pool-index in let q : ℕ = get_or c.args.pools.now k 0 in let x : Queue = c.index_mut.result.now in
     let here = equipped_moves p _ _ w own i.room i.kept c.requires.equipped in
-    let place : c.from-place.result ≡ place_of own q = c.from-place.ensures ∙ ap (λ (l : List ℕ). get_or l q 0) c.as_slice.ensures in
+    let place : c.at-place.result ≡ place_of own q = c.at-place.ensures in
     let is : x ≡ queue_of own q = c.index_mut.ensures.value ∙ ap (λ n. get_or own.free.items n x) place
     ∙ free_at p plain _ _ c.args.pools.now c.requires.phase k _ _ c.loop-pool-test.true i here.lists x in
     subst (λ (y : Queue). FreeBlocks p w q (fill_cycle p w q) y) (sym is)
@@ -50,8 +50,8 @@ write_output-requires-clause-samples c = let p = layout_of c.args.board.now.boar
     let here = equipped_moves p _ _ w own i.room i.kept c.requires.equipped in
     let low = pool_in p plain _ _ c.args.pools.now c.requires.phase k _ _ c.loop-pool-test.true i in
     let owns = owns_it p plain _ _ c.args.pools.now c.requires.phase k _ _ c.loop-pool-test.true i here.lists in
-    let place : c.from-place.result ≡ place_of own q = c.from-place.ensures ∙ ap (λ (l : List ℕ). get_or l q 0) c.as_slice.ensures in
-    let is : x ≡ pool_at p q = c.index-as_slice-place.is ∙ ap (λ (l : List PoolShape). get_or l c.from-place.result x) c.as_slice-in-loop-pool.ensures
+    let place : c.at-place.result ≡ place_of own q = c.at-place.ensures in
+    let is : x ≡ pool_at p q = c.index-as_slice-place.is ∙ ap (λ (l : List PoolShape). get_or l c.at-place.result x) c.as_slice.ensures
     ∙ ap (λ n. get_or own.shapes n x) place ∙ get_or_default own.shapes (place_of own q) x no_pool owns ∙ here.shapes_are q low owns in
     c.row_for-row.ensures
     ∙ ap (λ (y : PoolShape). if y.port.port == c.args.first_output then c.args.left.now else c.args.right.now) is
@@ -64,7 +64,7 @@ loop-pool-preserved c = let p = layout_of c.args.board.now.board_shape in let pl
     let k = c.loop-pool.pool-index in let q : ℕ = get_or c.args.pools.now k 0 in let e = c.write_output.ensures in
     let u : View = c.write_output.new.seat.knows in let x : Queue = c.write_output.new.free in
     let here = equipped_moves p _ _ w own i.written.room i.written.kept c.requires.equipped in
-    let place : c.from-place.result ≡ place_of own q = c.from-place.ensures ∙ ap (λ (l : List ℕ). get_or l q 0) c.as_slice.ensures in
+    let place : c.at-place.result ≡ place_of own q = c.at-place.ensures in
     record {
       table = e.table ∙ i.table;
       written = subst (λ n. AreWritten p c.args.seat.now.knows c.args.own.now (take (k + 1) c.args.pools.now) u

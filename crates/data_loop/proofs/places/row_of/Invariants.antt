@@ -2,7 +2,7 @@ use Rattle.std.proofs.Common.{◌≡◌, ◌-◌, ◌++◌, length, map, take}
 use Rattle.std.specs.Prelude.{replicate}
 use Rattle.std.specs.List.{enumerate_from}
 use Rattle.data_loop.specs.OwnPools.{own_pools, own_place}
-use Rattle.data_loop.proofs.own_pools.places_of.Given as goal
+use Rattle.data_loop.proofs.places.row_of.Given as goal
 
 abbrev pub invariant-loop-q : goal.invariant-loop-q
 invariant-loop-q l = record {

@@ -1,8 +1,8 @@
 use Rattle.std.proofs.Common.{◌∙◌, length, sym, ap, arith}
 use Rattle.std.proofs.lemmas.List.{length-set}
 use Rattle.data_loop.proofs.OwnPoolsLemmas.{few_own, place_own, place_other, before_own, before_other, placed_all}
-use Rattle.data_loop.proofs.own_pools.places_of.Goals as goal
-use Rattle.data_loop.proofs.own_pools.places_of.Goals.{then-is_among, else-is_among}
+use Rattle.data_loop.proofs.places.row_of.Goals as goal
+use Rattle.data_loop.proofs.places.row_of.Goals.{then-is_among, else-is_among}
 
 pub overflow_add-before : goal.overflow_add-before
 overflow_add-before c = let few = few_own c.args.nodes.now c.args.pools.now c.loop-q.q in let low = c.loop-q-test.true in
