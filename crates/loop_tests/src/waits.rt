@@ -63,6 +63,21 @@ fn who_is_not_called_rests_once(rt: HostRuntime) -> Result<(), Fail> {
     Ok(())
 }
 
+// A look of a loop that was called and has rested since, with its number still in its queue.
+fn rested<R: Wait>(rt: &R, alloc: Global) -> Option<(bool, u32)> {
+    let (ways, mut driver, mut first, _second) = row_ways(alloc)?;
+    ways.forward(rt, &mut driver, 1);
+    ways.rest(rt, &mut first);
+    let look = ways.look(&first);
+    Some((look.called, look.spins))
+}
+
+#[test]
+fn who_has_rested_is_called_no_more(rt: HostRuntime) -> Result<(), Fail> {
+    assert_eq!(rt; rested(&rt, rt.alloc()), Some((false, 256)));
+    Ok(())
+}
+
 // How many of so many looks of a loop that nobody calls spun.
 fn spun(alloc: Global, looks: u32) -> Option<u32> {
     let (ways, _driver, first, _second) = row_ways(alloc)?;
