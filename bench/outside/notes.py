@@ -182,9 +182,8 @@ def others(place):
     a = thing((65539, number(48000)), (7, choice(3, 1, 1)))
     for b, answer, said in [
             (a, "common\n", ""),
-            (thing((65539, number(44100))), "clash 65539\n",
-             "no common value under key 65539 (a format's rate)"),
-            (thing((7, number(2))), "clash 7\n", "no common value under key 7"),
+            (thing((65539, number(44100))), "clash 65539\n", "no common rate (key 65539)"),
+            (thing((7, number(2))), "clash 7\n", "no common value (key 7)"),
             (thing(kind=0x40004), "clash type\n", "objects of different types")]:
         place.file("a.pod", a)
         place.file("b.pod", b)

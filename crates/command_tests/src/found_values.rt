@@ -5,7 +5,7 @@ use format_filter::{Choice, Wide};
 use pod_codec::Pod;
 use pw_graph::{LineOutcome, Plan, PortId};
 use pw_lists::{Items, Memory, Text};
-use pw_top::{Content, Found, Store, What, Work};
+use pw_top::{Clash, Content, Found, Store, What, Work};
 use refused_links::{RefusedLink, Sides};
 use std::alloc::Global;
 use wav_files::{Peak, Wav};
@@ -27,8 +27,8 @@ pub(crate) enum Seen {
     /// Of a trace: that it is legal, or its first line that is no event.
     Legal,
     NoEvent(u64),
-    /// Of two objects that clash: the key.
-    Clash(Option<u32>),
+    /// Of two objects: how they clash.
+    Clash(Clash),
 }
 
 /// The driver of an epoch, and its active nodes.
@@ -187,7 +187,7 @@ pub(crate) fn what_of(alloc: Global, script: Option<&[u8]>, seen: Seen) -> Resul
             event: None,
         }),
         Seen::NoEvent(number) => Ok(What::NoEvent { number }),
-        Seen::Clash(key) => Ok(What::Clash { key }),
+        Seen::Clash(clash) => Ok(What::Clash(clash)),
     }
 }
 

@@ -6,7 +6,7 @@ use crate::found_values::{Pair, Seen, Side, Stored, found_of, what_of};
 use fault_messages::explain;
 use pw_graph::{LineOutcome, PortId};
 use pw_lists::{Memory, Text};
-use pw_top::Status;
+use pw_top::{Clash, Status};
 use row_files::words_of;
 use std::alloc::Global;
 use wav_files::Peak;
@@ -535,30 +535,6 @@ const OTHERS: &'static [Noted] = &[
     Noted {
         command: "filter a.pod b.pod c.pod",
         script: None,
-        seen: Seen::Clash(Some(65_540)),
-        told: Some(b"clash type\n"),
-        notes: b"pipegraph: a.pod and b.pod: no common value under key 65540 \
-            (a format's channels)\n",
-        ..RUN
-    },
-    Noted {
-        command: "filter a.pod b.pod c.pod",
-        script: None,
-        seen: Seen::Clash(Some(4_294_967_295)),
-        notes: b"pipegraph: a.pod and b.pod: no common value under key 4294967295\n",
-        ..RUN
-    },
-    Noted {
-        command: "filter a.pod b.pod c.pod",
-        script: None,
-        seen: Seen::Clash(None),
-        told: Some(b"clash 65540\n"),
-        notes: b"pipegraph: a.pod and b.pod: objects of different types\n",
-        ..RUN
-    },
-    Noted {
-        command: "filter a.pod b.pod c.pod",
-        script: None,
         seen: Seen::Nothing,
         told: Some(b"clash type\n"),
         ..RUN
@@ -576,6 +552,107 @@ const OTHERS: &'static [Noted] = &[
     Noted {
         seen: Seen::Nothing,
         ..RUN
+    },
+];
+
+/// Two objects of different types, of which the text that was put says otherwise.
+const TYPES: Noted = Noted {
+    command: "filter a.pod b.pod c.pod",
+    script: None,
+    seen: Seen::Clash(Clash::Types),
+    told: Some(b"clash 65540\n"),
+    notes: b"pipegraph: a.pod and b.pod: objects of different types\n",
+    ..RUN
+};
+
+/// How two objects clash: keys have names only in formats.
+const CLASHES: &'static [Noted] = &[
+    TYPES,
+    Noted {
+        seen: Seen::Clash(Clash::Values {
+            key: 65_540,
+            formats: true,
+        }),
+        notes: b"pipegraph: a.pod and b.pod: no common channels (key 65540)\n",
+        ..TYPES
+    },
+    Noted {
+        seen: Seen::Clash(Clash::Values {
+            key: 4_294_967_295,
+            formats: true,
+        }),
+        notes: b"pipegraph: a.pod and b.pod: no common value (key 4294967295)\n",
+        ..TYPES
+    },
+    Noted {
+        seen: Seen::Clash(Clash::Values {
+            key: 65_540,
+            formats: false,
+        }),
+        notes: b"pipegraph: a.pod and b.pod: no common value under key 65540\n",
+        ..TYPES
+    },
+    Noted {
+        seen: Seen::Clash(Clash::Values {
+            key: 4_294_967_295,
+            formats: false,
+        }),
+        notes: b"pipegraph: a.pod and b.pod: no common value under key 4294967295\n",
+        ..TYPES
+    },
+    Noted {
+        seen: Seen::Clash(Clash::FirstLacks {
+            key: 65_541,
+            formats: true,
+        }),
+        notes: b"pipegraph: a.pod and b.pod: the first has no position (key 65541), \
+            which the second makes mandatory\n",
+        ..TYPES
+    },
+    Noted {
+        seen: Seen::Clash(Clash::FirstLacks {
+            key: 65_542,
+            formats: true,
+        }),
+        notes: b"pipegraph: a.pod and b.pod: the first has no key 65542, \
+            which the second makes mandatory\n",
+        ..TYPES
+    },
+    Noted {
+        seen: Seen::Clash(Clash::FirstLacks {
+            key: 65_539,
+            formats: false,
+        }),
+        notes: b"pipegraph: a.pod and b.pod: the first has no key 65539, \
+            which the second makes mandatory\n",
+        ..TYPES
+    },
+    Noted {
+        seen: Seen::Clash(Clash::SecondLacks {
+            key: 1,
+            formats: true,
+        }),
+        notes: b"pipegraph: a.pod and b.pod: the second has no media type (key 1), \
+            which the first makes mandatory\n",
+        ..TYPES
+    },
+    Noted {
+        seen: Seen::Clash(Clash::SecondLacks {
+            key: 4_294_967_295,
+            formats: true,
+        }),
+        notes: b"pipegraph: a.pod and b.pod: the second has no key 4294967295, \
+            which the first makes mandatory\n",
+        ..TYPES
+    },
+    Noted {
+        seen: Seen::Clash(Clash::SecondLacks {
+            key: 1,
+            formats: false,
+        }),
+        notes: b"pipegraph: a.pod and b.pod: the second has no key 1, \
+            which the first makes mandatory\n",
+        ..TYPES
     },
 ];
 
@@ -628,4 +705,9 @@ fn sinks_with_samples_at_a_limit_have_notes(rt: HostRuntime) {
 #[test]
 fn checks_and_filters_have_notes_and_other_commands_none(rt: HostRuntime) {
     assert_eq!(rt; note_unlike(rt.alloc(), OTHERS), None);
+}
+
+#[test]
+fn objects_that_clash_have_a_note(rt: HostRuntime) {
+    assert_eq!(rt; note_unlike(rt.alloc(), CLASHES), None);
 }

@@ -13,6 +13,13 @@ const PROPS: Held<'static> = Held::Words(&[32, 15, 262146, 2, 65539, 0, 4, 4, 1,
 
 const OTHERS: Held<'static> = Held::Words(&[32, 15, 262146, 2, 65539, 0, 4, 4, 2, 0]);
 
+/// A format whose rate is 44100, and objects of both types with a mandatory key.
+const LOWER: Held<'static> = Held::Words(&[32, 15, 262147, 3, 65539, 0, 4, 4, 44100, 0]);
+
+const POSITION: Held<'static> = Held::Words(&[32, 15, 262147, 3, 65541, 8, 4, 4, 3, 0]);
+
+const MUTE: Held<'static> = Held::Words(&[32, 15, 262146, 2, 65540, 8, 4, 2, 1, 0]);
+
 const TWICE: Held<'static> = Held::Words(&[56, 15, 262146, 2, 2, 0, 4, 4, 1, 0, 2, 0, 4, 4, 2, 0]);
 
 /// Notes on links and formats, where all was done, and PODs that are refused.
@@ -118,7 +125,32 @@ const NOTES: &'static [Asked] = &[
         files: &[("a.pod", PROPS), ("b.pod", OTHERS)],
         code: 0,
         out: b"clash 65539\n",
-        said: b"a.pod and b.pod: no common value under key 65539 (a format's rate)",
+        said: b"a.pod and b.pod: no common value under key 65539",
+        ..RUN
+    },
+    Asked {
+        line: "filter a.pod b.pod o.pod",
+        files: &[("a.pod", RATE), ("b.pod", LOWER)],
+        code: 0,
+        out: b"clash 65539\n",
+        said: b"a.pod and b.pod: no common rate (key 65539)",
+        ..RUN
+    },
+    Asked {
+        line: "filter a.pod b.pod o.pod",
+        files: &[("a.pod", POSITION), ("b.pod", RATE)],
+        code: 0,
+        out: b"clash 65541\n",
+        said: b"a.pod and b.pod: the second has no position (key 65541), \
+            which the first makes mandatory",
+        ..RUN
+    },
+    Asked {
+        line: "filter a.pod b.pod o.pod",
+        files: &[("a.pod", PROPS), ("b.pod", MUTE)],
+        code: 0,
+        out: b"clash 65540\n",
+        said: b"a.pod and b.pod: the first has no key 65540, which the second makes mandatory",
         ..RUN
     },
     Asked {

@@ -24,10 +24,12 @@ abbrev pub common_name : Option (List ℕ) → List ℕ
 common_name None = codes "value"
 common_name (Some name) = name
 
--- a key under which two formats have nothing in common, and one of any two objects
+-- a key under which two formats have nothing in common
 unfoldable pub clash_said : ℕ → List ℕ
 clash_said key = codes "no common "
     ++ (common_name (key_name key) ++ (codes " (key " ++ (decimal key ++ codes ")")))
 
-unfoldable pub key_clash : ℕ → List ℕ
-key_clash key = codes "no common value under key " ++ (decimal key ++ key_part key)
+-- a key that an object does not have; its name only in a format
+abbrev pub named_key : Option (List ℕ) → ℕ → List ℕ
+named_key None key = codes "key " ++ decimal key
+named_key (Some name) key = name ++ (codes " (key " ++ (decimal key ++ codes ")"))

@@ -1,5 +1,6 @@
 pub mod ByteFaults
 pub mod CauseWords
+pub mod Clashes
 pub mod ClippedSinks
 pub mod CycleRoom
 pub mod EmptySinks

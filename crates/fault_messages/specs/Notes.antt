@@ -8,11 +8,12 @@ use Rattle.graph_script.specs.declared.script.Script.{Script}
 use Rattle.refused_links.specs.declared.refused_link.RefusedLink.{RefusedLink}
 use Rattle.trace_check.specs.declared.reasons.Reason.{Reason}
 use Rattle.command_frame.specs.declared.work.Work.{Work}
+use Rattle.run_results.specs.declared.clash.Clash.{Clash}
 use Rattle.run_results.specs.declared.found.What.{What}
 use Rattle.run_results.specs.declared.found.What.TheVariants as W
 use Rattle.shown_words.specs.Escaping.{escaped}
+use Rattle.fault_messages.specs.Clashes.{clash_text}
 use Rattle.fault_messages.specs.ClippedSinks.{stored_note}
-use Rattle.fault_messages.specs.KeyNames.{key_clash}
 use Rattle.fault_messages.specs.LinkNotes.{link_notes}
 use Rattle.fault_messages.specs.LoneInputs.{lone_notes}
 use Rattle.fault_messages.specs.NoteHeads.{trace_note}
@@ -36,17 +37,13 @@ unfoldable pub no_event : List ℕ
 no_event = codes "no event line of this script's nodes; grep -E '^(begin|start|finish|tick|end) '"
     ++ codes " takes those of a run's text, and none ends with a blank or a carriage return"
 
--- of a filter: the key under which the objects clash
+-- of a filter: how its two objects clash
 unfoldable pub pair_head : List ℕ → List ℕ → List ℕ
 pair_head a b = codes "pipegraph: " ++ (escaped a ++ (codes " and " ++ (escaped b ++ codes ": ")))
 
-abbrev pub clash_text : Option ℕ → List ℕ
-clash_text None = codes "objects of different types"
-clash_text (Some key) = key_clash key
-
-abbrev pub clash_note : Words → Option ℕ → List ℕ
-clash_note words key =
-    pair_head (word words 1) (word words 2) ++ (clash_text key ++ codes "\n")
+abbrev pub clash_note : Words → Clash → List ℕ
+clash_note words clash =
+    pair_head (word words 1) (word words 2) ++ (clash_text clash ++ codes "\n")
 
 -- of a command that finds nothing: the wave that it stored, if it did
 abbrev pub work_note : Words → Option Work → List ℕ
@@ -59,4 +56,4 @@ notes words W.Nothing work = work_note words work
 notes words (W.Run script plan peaks refused) work = run_notes words script plan peaks refused work
 notes words (W.Check names reason event) work = check_note words names reason event
 notes words (W.NoEvent n) work = trace_note words n no_event
-notes words (W.Clash key) work = clash_note words key
+notes words (W.Clash clash) work = clash_note words clash

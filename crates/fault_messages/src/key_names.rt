@@ -1,6 +1,6 @@
 //! Names of the keys of formats.
 ghost use Rattle.std.specs.Prelude.{◌≡◌, ◌++◌, decimal, option_copied, OnOk};
-ghost use Rattle.fault_messages.specs.KeyNames.{key_name, key_part, common_name, clash_said, key_clash};
+ghost use Rattle.fault_messages.specs.KeyNames.{key_name, key_part, common_name, clash_said, named_key};
 
 use crate::putting::{put_between, put_number};
 use pw_lists::{Memory, Text, append_decimal};
@@ -49,21 +49,25 @@ fn common_name(key: u32) -> &'static [u8]
     }
 }
 
-// Words, a key, and its name in a format.
-fn put_named_key(text: &mut Text, before: &[u8], key: u32) -> Result<(), Memory>
-    ensures { OnOk result (text.new ≡ text.old ++ (before.now ++ (decimal key ++ key_part key))) }
+/// Words, and the number of a key.
+pub fn put_key_number(text: &mut Text, before: &[u8], key: u32) -> Result<(), Memory>
+    ensures { OnOk result (text.new ≡ text.old ++ (before.now ++ decimal key)) }
 {
     text.extend(before)?;
-    append_decimal(text, u64::from(key))?;
-    put_key(text, key)
+    append_decimal(text, u64::from(key))
 }
 
-/// That two objects have nothing in common under a key.
-#[tactic(auto, unfolding(crate::specs::KeyNames::key_clash))]
-pub fn put_key_clash(text: &mut Text, key: u32) -> Result<(), Memory>
-    ensures { OnOk result (text.new ≡ text.old ++ key_clash key) }
+/// A key that a format does not have, by its name where it has one.
+pub fn put_format_key(text: &mut Text, key: u32) -> Result<(), Memory>
+    ensures { OnOk result (text.new ≡ text.old ++ named_key (key_name key) key) }
 {
-    put_named_key(text, b"no common value under key ", key)
+    match key_name(key) {
+        None => put_key_number(text, b"key ", key),
+        Some(name) => {
+            text.extend(name)?;
+            put_number(text, b" (key ", key, b")")
+        }
+    }
 }
 
 /// That two formats have nothing in common under a key.

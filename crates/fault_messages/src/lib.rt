@@ -6,6 +6,7 @@
 
 mod byte_faults;
 mod cause_words;
+mod clashes;
 mod clipped_sinks;
 mod cycle_room;
 mod empty_sinks;

@@ -1,10 +1,10 @@
 //! Notes on a command that was accepted.
 ghost use Rattle.std.specs.Prelude.{◌≡◌, ◌++◌, map, string_bytes, OnOk};
-ghost use Rattle.fault_messages.specs.Notes.{run_notes, check_note, no_event, pair_head, clash_text, clash_note, work_note, notes};
+ghost use Rattle.fault_messages.specs.Notes.{run_notes, check_note, no_event, pair_head, clash_note, work_note, notes};
 ghost use Rattle.fault_messages.specs.NoteHeads.{trace_note};
 
+use crate::clashes::put_clash_text;
 use crate::clipped_sinks::put_stored_note;
-use crate::key_names::put_key_clash;
 use crate::link_notes::put_link_notes;
 use crate::lone_inputs::put_lone_notes;
 use crate::note_heads::put_trace_head;
@@ -16,7 +16,7 @@ use graph_script::Script;
 use pw_graph::{Event, Plan};
 use pw_lists::{Memory, Text};
 use refused_links::RefusedLink;
-use run_results::{What, Work};
+use run_results::{Clash, What, Work};
 use trace_check::Reason;
 use wav_files::Peak;
 
@@ -88,22 +88,13 @@ fn put_pair_head(text: &mut Text, a: &[u8], b: &[u8]) -> Result<(), Memory>
     put_shown_pair(text, b"pipegraph: ", a, b" and ", b, b": ")
 }
 
-fn put_clash_text(text: &mut Text, key: Option<u32>) -> Result<(), Memory>
-    ensures { OnOk result (text.new ≡ text.old ++ clash_text key) }
-{
-    match key {
-        None => text.extend(b"objects of different types"),
-        Some(key) => put_key_clash(text, key),
-    }
-}
-
 // Of a filter whose objects clash.
-fn put_clash_note(text: &mut Text, words: &[String], key: Option<u32>) -> Result<(), Memory>
+fn put_clash_note(text: &mut Text, words: &[String], clash: Clash) -> Result<(), Memory>
     ensures { OnOk result
-        (text.new ≡ text.old ++ clash_note (map string_bytes words.now) key) }
+        (text.new ≡ text.old ++ clash_note (map string_bytes words.now) clash) }
 {
     put_pair_head(text, word_at(words, 1), word_at(words, 2))?;
-    put_clash_text(text, key)?;
+    put_clash_text(text, clash)?;
     text.extend(b"\n")
 }
 
@@ -146,6 +137,6 @@ pub fn put_notes(
             event,
         } => put_check_note(text, words, names.as_slice(), *reason, *event),
         What::NoEvent { number } => put_no_event(text, words, *number),
-        What::Clash { key } => put_clash_note(text, words, *key),
+        What::Clash(clash) => put_clash_note(text, words, *clash),
     }
 }

@@ -3,6 +3,7 @@ pub mod Answer
 pub mod Automate
 pub mod Check
 pub mod CheckFound
+pub mod Clashes
 pub mod CommandLine
 pub mod Crews
 pub mod Dump

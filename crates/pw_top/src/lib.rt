@@ -1,6 +1,7 @@
 //! The top call: what a command line does, from its words to files, text and status.
 #![tactic(auto)]
 
+mod clashes;
 mod commands;
 mod format_file;
 mod inputs;
@@ -27,7 +28,7 @@ mod wave_file;
 
 pub use one_answer::order_shows_in_events_alone;
 pub use parts_alone::parts_store_as_alone;
-pub use run_results::{Content, Found, PodWhy, Status, Store, What, Work};
+pub use run_results::{Clash, Content, Found, PodWhy, Status, Store, What, Work};
 pub use surely::run_surely;
 pub use top::{Ran, Report, run_words, run_words_with};
 pub use usage::ticks_of;

@@ -156,10 +156,10 @@ pub struct Ran {
 /// them; where all was done, what was stored and put, and besides of `run` and `groups` the script,
 /// its plan and the peaks, of `run` what both sides of each link without a common format admit, of
 /// `check` the reason for which the events of the trace are no legal history of the script's plan,
-/// or its first line of no event, and of `filter` the key of a clash. Nothing is loaded for it, and
-/// nothing made or copied but the refused links and, for them, the ports of a script: script, plan,
-/// waves and text are those of the run, and are held until the answer is dropped. A trace is
-/// followed once. It may wait for the loops.
+/// or its first line of no event, and of `filter` how the two objects clash. Nothing is loaded for
+/// it, and nothing made or copied but the refused links and, for them, the ports of a script:
+/// script, plan, waves and text are those of the run, and are held until the answer is dropped. A
+/// trace is followed once. It may wait for the loops.
 pub fn run_words_with<R: Threads + Wait + Sync, F: Files, O: Sink, G: Gate + Sync, K: Ticker>(
     rt: &R,
     alloc: Global,

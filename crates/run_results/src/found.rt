@@ -1,5 +1,6 @@
 //! What a run found, beyond its report.
 
+use crate::clash::Clash;
 use command_frame::Work;
 use graph_script::Script;
 use pw_graph::{Event, Plan};
@@ -47,9 +48,6 @@ pub enum What {
     NoEvent {
         number: u64,
     },
-    /// Of `filter`: the first key under which the two objects have nothing in common; `None` where
-    /// they are of different types.
-    Clash {
-        key: Option<u32>,
-    },
+    /// Of `filter`: how the two objects clash.
+    Clash(Clash),
 }

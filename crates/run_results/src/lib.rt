@@ -3,11 +3,13 @@
 //! which each status is an end with a line (`ending`, `status_line`).
 #![tactic(auto)]
 
+mod clash;
 mod ending;
 mod found;
 mod status;
 mod status_line;
 
+pub use clash::Clash;
 pub use command_frame::{Content, Store, Work};
 pub use found::{Found, What};
 pub use status::{PodWhy, Status};

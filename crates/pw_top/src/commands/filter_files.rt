@@ -16,6 +16,7 @@ ghost use Rattle.pw_top.specs.Filter.{ReadsSecond, LoadsSecond, ReadsFirst, IsFi
 ghost use Rattle.pw_top.specs.FilterFound.{IsFoundOf, IsFoundByFilter};
 ghost use Rattle.pw_top.specs.working.Filtering.{IsFoundWith, IsFoundAfter, IsFoundFrom};
 
+use crate::clashes::clash_of;
 use crate::format_file::format_step;
 use crate::pod_file::POD_BYTES;
 use command_frame::load_step;
@@ -23,7 +24,7 @@ use format_filter::{Filtered, Format, filter, pod_of};
 use pod_codec::{Pod, WriteFault, write_pod};
 use pw_lists::{Items, Memory, Text, Which, append_decimal};
 use pw_outside::Files;
-use run_results::{Content, Status, Store, What, Work};
+use run_results::{Clash, Content, Status, Store, What, Work};
 use std::alloc::Global;
 
 /// Filters the objects of two files, A as output, and stores what they have in common under a third
@@ -158,11 +159,11 @@ fn filter_both(
             common_object(alloc, &format, out)
         }
         Ok(Filtered::Clash { key }) => {
-            *what = What::Clash { key: Some(key) };
+            *what = What::Clash(clash_of(a, b, key));
             clash_at(alloc, key)
         }
         Ok(Filtered::Types) => {
-            *what = What::Clash { key: None };
+            *what = What::Clash(Clash::Types);
             clash_of_types(alloc)
         }
     }
