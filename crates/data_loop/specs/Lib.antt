@@ -1,4 +1,3 @@
-pub mod Places
 pub mod OwnPools
 pub mod PlanPools
 pub mod turns

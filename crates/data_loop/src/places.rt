@@ -3,7 +3,7 @@ ghost use Rattle.std.specs.Prelude.{◌≡◌, ◌<◌, ◌≤◌, IfOk, length,
 ghost use Rattle.std.specs.List.{position_or_len};
 ghost use Rattle.pw_lists.specs.Limits.{links_limit};
 ghost use Rattle.data_loop.specs.OwnPools.{is_among, is_own, own_pools, own_places};
-ghost use Rattle.data_loop.specs.Places.{kept_places};
+ghost use Rattle.data_loop.specs.working.Places.{kept_places};
 
 use pw_graph::PoolShape;
 use pw_lists::{Items, Memory};
@@ -30,7 +30,7 @@ impl Model for Places {
 
     ghost Value = { List ℕ };
 
-    ghost use Rattle.data_loop.specs.Places.{kept_places};
+    ghost use Rattle.data_loop.specs.working.Places.{kept_places};
 
     ghost view = { λ p. kept_places p.kept };
 }
