@@ -96,7 +96,7 @@ SCRIPTS = [
     ("TooMany", "meter m\n" + "drain\n" * 1025, 1026, " 6"),
     ("AsyncLate", LINKED + "async a", 4, "")]
 
-# What pipegraph-pictures says of it.
+# What pipegraph-pictures says of it, behind the line.
 SAID = {
     "Byte": "a byte that no script may have", "Command": "the first word is no command",
     "Arguments": "too few words, or too many",
@@ -174,11 +174,12 @@ def scripts_at_fault(place):
     for name, script, at, which in SCRIPTS:
         place.file("bad.graph", script)
         line = f"script {at} {whys.get(name)}{which}"
+        shown = "" if name == "Byte" else script.split("\n")[at - 1] + ": "
         for words in planned("bad.graph"):
             place.expect(f"{words[0]}: {name}", words, 2, line + "\n")
         for words in [["graph", "bad.graph"], ["graph", "bad.graph", "no.trace"],
                       ["timeline", "bad.graph", "no.trace"]]:
-            refused(place, words, 2, line, f"bad.graph:{at}: {SAID[name + which]}", PICTURES)
+            refused(place, words, 2, line, f"bad.graph:{at}: {shown}{SAID[name + which]}", PICTURES)
 
 
 def waves(place):

@@ -1,20 +1,21 @@
 -- Laws of `specs/Answers.antt`: a script's names are such as lines can name; what is drawn of a file that was loaded.
-use Rattle.std.proofs.Common.{◌≡◌, ℕ, List, [], ap, refl, subst}
+use Rattle.std.proofs.Common.{◌≡◌, ℕ, List, [], ap, refl, subst, sym, ◌∙◌, inl, inr}
 use Rattle.std.specs.Prelude.{Result, Ok, Err, IsSome}
 use Rattle.pw_outside.specs.Files.{Names, Held, names_in}
 use Rattle.command_frame.specs.declared.work.Store.{Store}
 use Rattle.command_frame.specs.declared.work.Work.{Work}
 use Rattle.command_frame.specs.Allowed.{Reads, Binds}
+use Rattle.command_frame.specs.Allowed.Binds.{short, stops, goes}
 use Rattle.command_frame.specs.Answer.{Expected}
 use Rattle.command_frame.specs.Ending.{Ends, CommandCause}
-use Rattle.command_frame.proofs.AllowedLemmas.{binds_goes, binds_stops, part_quiet}
+use Rattle.command_frame.proofs.AllowedLemmas.{binds_goes, binds_stops, part_quiet, outcome_is}
 use Rattle.cycle_trace.specs.TraceReading.{AreNames}
 use Rattle.graph_script.specs.declared.script.Script.{Script}
 use Rattle.graph_script.proofs.NameLemmas.{name_whole}
 use Rattle.graph_pictures.specs.declared.status.Status.{Status}
 use Rattle.graph_pictures.specs.declared.words.Request.{Request}
 use Rattle.graph_pictures.specs.Answers.{IsRunDrawn, IsPicture, IsPut, IsAnswerTo}
-use Rattle.graph_pictures.specs.Reading.{IsScriptRead, IsTraceDrawn}
+use Rattle.graph_pictures.specs.Reading.{ParsesTo, IsScriptRead, IsTraceDrawn}
 use Rattle.graph_pictures.specs.Statuses.{statuses}
 use Rattle.graph_pictures.specs.working.Sound.{IsSoundScript, Anything}
 
@@ -25,6 +26,25 @@ script_names script sound = record {
   each = λ k d lt. record { whole = name_whole _ (sound.ranges.names k d lt); other = sound.order.other k d lt };
   distinct = sound.order.distinct;
 }
+
+-- a script that is read is so whatever is kept of one that is refused
+parsed_so : (kept other bytes : List ℕ) (r : Result Script Status) (script : Script) → r ≡ Ok script → ParsesTo kept bytes r → ParsesTo other bytes r
+parsed_so kept other bytes (Ok s) script is h = h
+parsed_so kept other bytes (Err status) script is h = cc
+
+module _ (kept other name : List ℕ) (names : Names) (script : Script) where
+  read_part : (bytes : List ℕ) (e : Expected Status Script) → e.outcome ≡ Ok script → Reads statuses (ParsesTo kept bytes) e
+      → Reads statuses (ParsesTo other bytes) e
+  read_part bytes e is h = (h.0, elim h.1 [ inl p ↦ inl (parsed_so kept other bytes e.outcome script is p) | inr lost ↦ inr lost ])
+
+  read_binds : (e : Expected Status Script) → e.outcome ≡ Ok script → IsScriptRead kept name names e → IsScriptRead other name names e
+  read_binds e is (short first p same) = short first p same
+  read_binds e is (stops first status p out same) = stops first status p out same
+  read_binds e is (goes first bytes rest p out next same) =
+      goes first bytes rest p out (read_part bytes rest (sym (ap (λ (a : Expected Status Script). a.outcome) same) ∙ is) next) same
+
+  pub read_so : Ends statuses (IsScriptRead kept name names) (Ok script) → Ends statuses (IsScriptRead other name names) (Ok script)
+  read_so h = record { answer = h.answer; allowed = read_binds h.answer (outcome_is statuses h.answer script h.ends) h.allowed; ends = h.ends }
 
 -- what is made of what was read first, by itself
 module _ {T U : Type 0} (First : Expected Status T → Type 0) (Makes : T → Result U Status → Type 0) where
@@ -55,20 +75,20 @@ module _ {T U : Type 0} (First : Names → Expected Status T → Type 0) (Then :
       (subst (λ (k : Held). IsSome k → Ends statuses (Then (names_in k) seen) r) same read h))
 
 -- a picture of a trace: the script is refused, or the trace is read after it, from files that hold the same
-module _ (Draws : Script → List ℕ → Result (List ℕ) Status → Type 0) where
+module _ (stranger : List ℕ) (Draws : Script → List ℕ → Result (List ℕ) Status → Type 0) where
   abbrev Then : List ℕ → Names → Script → Expected Status (List ℕ) → Type 0
   Then trace names s = IsTraceDrawn (Draws s) trace names
 
-  pub script_stops : (script trace : List ℕ) (names : Names) (status : Status) → Ends statuses (IsScriptRead script names) (Err status)
-      → Ends statuses (IsRunDrawn Draws script trace names) (Err status)
-  script_stops script trace names status h = binds_stops statuses (IsScriptRead script names) (Then trace names) status h
+  pub script_stops : (script trace : List ℕ) (names : Names) (status : Status) → Ends statuses (IsScriptRead stranger script names) (Err status)
+      → Ends statuses (IsRunDrawn stranger Draws script trace names) (Err status)
+  script_stops script trace names status h = binds_stops statuses (IsScriptRead stranger script names) (Then trace names) status h
 
   pub trace_after : (held held' : Held) (script trace : List ℕ) (s : Script) (r : Result (List ℕ) Status) → held' ≡ held
-      → Ends statuses (IsScriptRead script (names_in held)) (Ok s)
+      → Ends statuses (IsScriptRead stranger script (names_in held)) (Ok s)
       → (IsSome held' → Ends statuses (IsTraceDrawn (Draws s) trace (names_in held')) r) → IsSome held
-      → Ends statuses (IsRunDrawn Draws script trace (names_in held)) r
+      → Ends statuses (IsRunDrawn stranger Draws script trace (names_in held)) r
   trace_after held held' script trace s r same is read h =
-      binds_goes statuses (IsScriptRead script (names_in held)) (Then trace (names_in held)) s r is
+      binds_goes statuses (IsScriptRead stranger script (names_in held)) (Then trace (names_in held)) s r is
       (subst (λ (k : Held). IsSome k → Ends statuses (IsTraceDrawn (Draws s) trace (names_in k)) r) same read h)
 
 -- a picture is put

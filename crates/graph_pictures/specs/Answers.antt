@@ -26,32 +26,33 @@ DrawsGraph script (Ok text) = text ≡ graph_text script []
 DrawsGraph script (Err status) = status ≡ S.Memory
 
 -- the graph of the script of a file
-abbrev pub IsGraphDrawn : List ℕ → Names → Expected Status (List ℕ) → Type 0
-IsGraphDrawn script names = Binds statuses (IsScriptRead script names)
+abbrev pub IsGraphDrawn : List ℕ → List ℕ → Names → Expected Status (List ℕ) → Type 0
+IsGraphDrawn stranger script names = Binds statuses (IsScriptRead stranger script names)
     (λ s. Reads statuses (DrawsGraph s))
 
 -- a picture of the trace of a file, by the script of another, which is read first
-abbrev pub IsRunDrawn : (Script → List ℕ → Result (List ℕ) Status → Type 0) → List ℕ → List ℕ
-    → Names → Expected Status (List ℕ) → Type 0
-IsRunDrawn Draws script trace names = Binds statuses (IsScriptRead script names)
+abbrev pub IsRunDrawn : List ℕ → (Script → List ℕ → Result (List ℕ) Status → Type 0) → List ℕ
+    → List ℕ → Names → Expected Status (List ℕ) → Type 0
+IsRunDrawn stranger Draws script trace names = Binds statuses (IsScriptRead stranger script names)
     (λ s. IsTraceDrawn (Draws s) trace names)
 
 -- the graph of the script of a file, by the trace and the notes of others, which are read after it
 abbrev pub IsNotedGraph : List ℕ → List ℕ → List ℕ → List ℕ → Names → Expected Status (List ℕ)
     → Type 0
-IsNotedGraph stranger script trace notes names = Binds statuses (IsScriptRead script names)
+IsNotedGraph stranger script trace notes names = Binds statuses
+    (IsScriptRead stranger script names)
     (λ s. IsNotedDrawn (DrawsNoted stranger script s) trace notes names)
 
--- THE PICTURE of a request; of a bad line of a trace this is what it names and the script does not
--- have
+-- THE PICTURE of a request; of a line of the script that is refused this is the line, and of a bad
+-- line of a trace what it names and the script does not have
 abbrev pub IsPicture : List ℕ → Request → Names → Expected Status (List ℕ) → Type 0
-IsPicture stranger (R.Graph script) names = IsGraphDrawn script names
+IsPicture stranger (R.Graph script) names = IsGraphDrawn stranger script names
 IsPicture stranger (R.RunGraph script trace) names =
-    IsRunDrawn (DrawsRun stranger) script trace names
+    IsRunDrawn stranger (DrawsRun stranger) script trace names
 IsPicture stranger (R.NotedGraph script trace notes) names =
     IsNotedGraph stranger script trace notes names
 IsPicture stranger (R.Timeline script trace cycles at) names =
-    IsRunDrawn (DrawsTrace cycles at stranger) script trace names
+    IsRunDrawn stranger (DrawsTrace cycles at stranger) script trace names
 IsPicture stranger (R.Wave file) names = IsWaveDrawn file names
 
 -- a picture is put, and nothing is stored

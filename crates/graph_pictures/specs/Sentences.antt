@@ -13,7 +13,7 @@ use Rattle.graph_pictures.specs.FileSentences.{wav_said, bytes_said}
 use Rattle.graph_pictures.specs.Template.{filled}
 use Rattle.graph_pictures.specs.Reading.{trace_place, notes_place}
 use Rattle.graph_pictures.specs.RunSentences.{no_node}
-use Rattle.graph_pictures.specs.ScriptSentences.{why_said}
+use Rattle.graph_pictures.specs.ScriptSentences.{refused_said}
 use Rattle.graph_pictures.specs.UsageSentences.{usage_said, first_said}
 use Rattle.word_hints.specs.ShellSigns.{shell_hint}
 
@@ -31,8 +31,9 @@ of_file front words place said =
     codes "pipegraph-pictures: " ++ front ++ file_said words place ++ said
 
 -- a line of a script that is refused
-abbrev pub of_script : List (List ℕ) → ℕ → ScriptWhy → List ℕ
-of_script words line why = of_file [] words 0 (filled (codes ":%: ") (line ∷ [])) ++ why_said why
+abbrev pub of_script : List (List ℕ) → ℕ → ScriptWhy → List ℕ → List ℕ
+of_script words number why line =
+    of_file [] words 0 (filled (codes ":%: ") (number ∷ [])) ++ refused_said why line
 
 -- a line of a trace that is refused
 abbrev pub line_said : List (List ℕ) → List ℕ → List ℕ
@@ -59,12 +60,12 @@ of_refused words place why =
     of_file (codes "cannot read ") words place (codes ": the system refuses it")
     ++ reasons.why_said why ++ codes "\n"
 
--- THE SENTENCE of a status, with the name that the script does not have, and why the last load
--- failed; there is none where all was done
+-- THE SENTENCE of a status, with the line of the script that is refused, or the name that the
+-- script does not have, and why the last load failed; there is none where all was done
 unfoldable pub explained : List (List ℕ) → Status → List ℕ → Option FileWhy → List ℕ
 explained words S.Ok stranger reason = []
 explained words (S.Usage word) stranger reason = first_said words word ++ usage_said
-explained words (S.Script line why) stranger reason = of_script words line why
+explained words (S.Script line why) stranger reason = of_script words line why stranger
 explained words (S.Line number) stranger reason = of_line words number stranger
 explained words (S.NoCycle word) stranger reason = of_cycle words word
 explained words (S.Wav place why) stranger reason = of_file [] words place (wav_said why)

@@ -15,7 +15,8 @@ use pw_lists::{Items, Text};
 use pw_outside::{Files, Sink};
 use std::alloc::Global;
 
-/// The program, with the node or the link for which it refused a line of a trace.
+/// The program, with the line of the script that it refused, or the node or the link for which it
+/// refused a line of a trace.
 #[derive(Drop)]
 pub(crate) struct Pictures {
     pub stranger: Text,
@@ -59,11 +60,12 @@ impl Program<Status, Request> for Pictures {
 /// The words are those after the program's own name: `graph SCRIPT`, `graph SCRIPT RUN`,
 /// `graph SCRIPT RUN NOTES`, `timeline SCRIPT TRACE`, the same with the first and the last of the
 /// cycles that are drawn, or `wave FILE`. Loads are made in this order, and nothing is stored. A
-/// script or a file is refused with the line and the status that `pipegraph` has for it; of a trace
-/// with a line that is no event line, or that names a node or a link which the script does not
-/// have, that line's number is printed, and `stranger` is that node's name, or the line for that
-/// link, or nothing; a cycle that no event is of is refused as a word is. Where memory is short for
-/// a line, that of `Memory` is printed instead. Takes memory for the files and for the text.
+/// script or a file is refused with the line and the status that `pipegraph` has for it, and of a
+/// script `stranger` is the line at fault, up to a carriage return; of a trace with a line that is
+/// no event line, or that names a node or a link which the script does not have, that line's number
+/// is printed, and `stranger` is that node's name, or the line for that link, or nothing; a cycle
+/// that no event is of is refused as a word is. Where memory is short for a line, that of `Memory`
+/// is printed instead. Takes memory for the files and for the text.
 pub fn print_picture<F: Files, O: Sink>(
     alloc: Global,
     words: &[String],

@@ -143,7 +143,7 @@ pub(crate) fn read_noted_graph<F: Files>(
     ensures cause { CommandCause statuses Anything (F.load_faults files.old)
         (F.load_faults files.new) result }
 {
-    match read_script(alloc, files, script) {
+    match read_script(alloc, files, script, stranger) {
         Err(status) => Err(status),
         Ok(read) => read_noted(
             alloc,

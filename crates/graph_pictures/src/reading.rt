@@ -15,7 +15,7 @@ use crate::graph_drawing::graph;
 use crate::marks::mark_of;
 use crate::noted_reading::read_noted_graph;
 use crate::status::Status;
-use crate::strangers::stranger_in;
+use crate::strangers::{script_line, stranger_in};
 use crate::timeline_drawing::timeline;
 use crate::trace_text::read_run;
 use crate::wave_drawing::wave;
@@ -39,28 +39,35 @@ const TRACE_PLACE: u32 = u32::MAX;
 /// The bytes of a trace, at most.
 const TRACE_BYTES: u64 = 268_435_456;
 
-// The script that bytes are.
-fn parsed(alloc: Global, bytes: &[u8]) -> Result<Script, Status>
+// The script that bytes are; of a line that is refused the line is kept.
+fn parsed(alloc: Global, bytes: &[u8], stranger: &mut Text) -> Result<Script, Status>
     requires small { length bytes.now ≤ script_bytes_limit }
-    ensures read { ParsesTo bytes.now result }
+    ensures read { ParsesTo stranger.new bytes.now result }
     ensures cause { CommandCause statuses IsSoundScript 0 0 result }
 {
     match parse(alloc, bytes) {
         Ok(script) => Ok(script),
-        Err(ScriptFault::At { line, why }) => Err(Status::Script { line, why }),
+        Err(ScriptFault::At { line, why }) => match script_line(alloc, bytes, line) {
+            Ok(text) => {
+                *stranger = text;
+                Err(Status::Script { line, why })
+            }
+            Err(_memory) => Err(Status::Memory),
+        },
         Err(ScriptFault::Memory) => Err(Status::Memory),
     }
 }
 
-/// The script of a file.
+/// The script of a file; of a line that is refused the line is kept.
 pub(crate) fn read_script<F: Files>(
     alloc: Global,
     files: &mut F,
     name: &Text,
+    stranger: &mut Text,
 ) -> Result<Script, Status>
     ensures files { LoadsOnly (F.held files.old) (F.held files.new) (F.load_faults files.old)
         (F.load_faults files.new) (F.store_faults files.old) (F.store_faults files.new) }
-    ensures told { Tells statuses (F.held files.old) (IsScriptRead name.now) result }
+    ensures told { Tells statuses (F.held files.old) (IsScriptRead stranger.new name.now) result }
     ensures cause { CommandCause statuses IsSoundScript (F.load_faults files.old)
         (F.load_faults files.new) result }
 {
@@ -70,7 +77,7 @@ pub(crate) fn read_script<F: Files>(
     };
     match load_step(alloc, files, SCRIPT_PLACE, name, SCRIPT_BYTES_LIMIT, long) {
         Err(status) => Err(status),
-        Ok(bytes) => parsed(alloc, bytes.as_slice()),
+        Ok(bytes) => parsed(alloc, bytes.as_slice(), stranger),
     }
 }
 
@@ -86,14 +93,19 @@ fn drawn_graph(alloc: Global, script: &Script) -> Result<Text, Status>
 }
 
 // The picture of the graph of a script's file.
-fn read_graph<F: Files>(alloc: Global, files: &mut F, name: &Text) -> Result<Text, Status>
+fn read_graph<F: Files>(
+    alloc: Global,
+    files: &mut F,
+    name: &Text,
+    stranger: &mut Text,
+) -> Result<Text, Status>
     ensures files { LoadsOnly (F.held files.old) (F.held files.new) (F.load_faults files.old)
         (F.load_faults files.new) (F.store_faults files.old) (F.store_faults files.new) }
-    ensures told { Tells statuses (F.held files.old) (IsGraphDrawn name.now) result }
+    ensures told { Tells statuses (F.held files.old) (IsGraphDrawn stranger.new name.now) result }
     ensures cause { CommandCause statuses Anything (F.load_faults files.old)
         (F.load_faults files.new) result }
 {
-    match read_script(alloc, files, name) {
+    match read_script(alloc, files, name, stranger) {
         Err(status) => Err(status),
         Ok(script) => drawn_graph(alloc, &script),
     }
@@ -243,12 +255,12 @@ fn read_run_graph<F: Files>(
 ) -> Result<Text, Status>
     ensures files { LoadsOnly (F.held files.old) (F.held files.new) (F.load_faults files.old)
         (F.load_faults files.new) (F.store_faults files.old) (F.store_faults files.new) }
-    ensures told { Tells statuses (F.held files.old) (IsRunDrawn (DrawsRun stranger.new) script.now
-        trace.now) result }
+    ensures told { Tells statuses (F.held files.old)
+        (IsRunDrawn stranger.new (DrawsRun stranger.new) script.now trace.now) result }
     ensures cause { CommandCause statuses Anything (F.load_faults files.old)
         (F.load_faults files.new) result }
 {
-    match read_script(alloc, files, script) {
+    match read_script(alloc, files, script, stranger) {
         Err(status) => Err(status),
         Ok(script) => read_links(alloc, files, &script, trace, stranger),
     }
@@ -267,11 +279,11 @@ fn read_timeline<F: Files>(
     ensures files { LoadsOnly (F.held files.old) (F.held files.new) (F.load_faults files.old)
         (F.load_faults files.new) (F.store_faults files.old) (F.store_faults files.new) }
     ensures told { Tells statuses (F.held files.old)
-        (IsRunDrawn (DrawsTrace cycles at stranger.new) script.now trace.now) result }
+        (IsRunDrawn stranger.new (DrawsTrace cycles at stranger.new) script.now trace.now) result }
     ensures cause { CommandCause statuses Anything (F.load_faults files.old)
         (F.load_faults files.new) result }
 {
-    match read_script(alloc, files, script) {
+    match read_script(alloc, files, script, stranger) {
         Err(status) => Err(status),
         Ok(script) => read_trace(alloc, files, &script, trace, cycles, at, stranger),
     }
@@ -314,9 +326,9 @@ fn read_wave<F: Files>(alloc: Global, files: &mut F, name: &Text) -> Result<Text
     }
 }
 
-/// The picture that a request asks for, by the files; of a bad line of a trace the name of the
-/// node, or the line for a link, that the script does not have is kept, or nothing. A load that fails
-/// raises the count of the files.
+/// The picture that a request asks for, by the files; of a line of the script that is refused the
+/// line is kept, and of a bad line of a trace the name of the node, or the line for a link, that
+/// the script does not have, or nothing. A load that fails raises the count of the files.
 pub(crate) fn picture_of<F: Files>(
     alloc: Global,
     files: &mut F,
@@ -330,7 +342,7 @@ pub(crate) fn picture_of<F: Files>(
         (F.load_faults files.new) result }
 {
     match request {
-        Request::Graph { script } => read_graph(alloc, files, script),
+        Request::Graph { script } => read_graph(alloc, files, script, stranger),
         Request::RunGraph { script, trace } => {
             read_run_graph(alloc, files, script, trace, stranger)
         }

@@ -1,9 +1,11 @@
 //! Why a line of a script is refused, in words.
-ghost use Rattle.std.specs.Prelude.{◌≡◌};
-ghost use Rattle.graph_pictures.specs.ScriptSentences.{many_said, why_said};
+ghost use Rattle.std.specs.Prelude.{◌≡◌, [], ◌++◌, if◌then◌else◌, OnOk};
+ghost use Rattle.graph_pictures.specs.ScriptSentences.{many_said, why_said, has_words, line_part};
+ghost use Rattle.graph_pictures.specs.ScriptSentences.{refused_said};
 
 use graph_script::ScriptWhy;
-use pw_lists::Which;
+use pw_lists::{Memory, Text, Which};
+use shown_words::put_escaped;
 
 // Of what a script has too much.
 fn many_said(which: Which) -> &'static [u8]
@@ -16,8 +18,8 @@ fn many_said(which: Which) -> &'static [u8]
     }
 }
 
-/// The cause in words.
-pub(crate) fn why_said(why: ScriptWhy) -> &'static [u8]
+// The cause in words.
+fn why_said(why: ScriptWhy) -> &'static [u8]
     ensures { result.now ≡ why_said why }
 {
     match why {
@@ -35,4 +37,47 @@ pub(crate) fn why_said(why: ScriptWhy) -> &'static [u8]
         ScriptWhy::TooMany(which) => many_said(which),
         ScriptWhy::AsyncLate => b"async comes before the links of its node\n",
     }
+}
+
+// Whether the line is said before the cause.
+fn has_words(why: ScriptWhy) -> bool
+    ensures { result ≡ has_words why }
+{
+    match why {
+        ScriptWhy::Byte => false,
+        _ => true,
+    }
+}
+
+// The line before its cause.
+fn put_line_part(text: &mut Text, line: &[u8]) -> Result<(), Memory>
+    ensures { OnOk result (text.new ≡ text.old ++ line_part line.now) }
+{
+    match line {
+        [] => Ok(()),
+        [_, ..] => {
+            put_escaped(text, line)?;
+            text.extend(b": ")
+        }
+    }
+}
+
+// The line, where it is said.
+fn put_shown_line(text: &mut Text, why: ScriptWhy, line: &[u8]) -> Result<(), Memory>
+    ensures { OnOk result
+        (text.new ≡ text.old ++ (if has_words why then line_part line.now else [])) }
+{
+    if has_words(why) {
+        put_line_part(text, line)
+    } else {
+        Ok(())
+    }
+}
+
+/// What is said of a line of a script that is refused: the line, and the cause.
+pub(crate) fn put_refused(text: &mut Text, why: ScriptWhy, line: &[u8]) -> Result<(), Memory>
+    ensures { OnOk result (text.new ≡ text.old ++ refused_said why line.now) }
+{
+    put_shown_line(text, why, line)?;
+    text.extend(why_said(why))
 }

@@ -8,7 +8,7 @@ ghost use Rattle.graph_pictures.specs.UsageSentences.{usage_said, first_said};
 ghost use Rattle.shown_words.specs.Escaping.{escaped};
 
 use crate::file_sentences::{bytes_said, wav_said};
-use crate::script_sentences::why_said;
+use crate::script_sentences::put_refused;
 use crate::status::Status;
 use crate::template::fill;
 use crate::usage_sentences::{put_first, usage_said};
@@ -88,14 +88,15 @@ fn put_of_script(
     alloc: Global,
     text: &mut Text,
     words: &[String],
-    line: u64,
+    number: u64,
     why: ScriptWhy,
+    line: &[u8],
 ) -> Result<(), Memory>
     ensures { OnOk result
-        (text.new ≡ text.old ++ of_script (map string_bytes words.now) line why) }
+        (text.new ≡ text.old ++ of_script (map string_bytes words.now) number why line.now) }
 {
-    put_of_line(alloc, text, words, 0, line, b":%: ")?;
-    text.extend(why_said(why))?;
+    put_of_line(alloc, text, words, 0, number, b":%: ")?;
+    put_refused(text, why, line)?;
     Ok(())
 }
 
@@ -246,7 +247,9 @@ fn put_sentence(
     match status {
         Status::Ok => Ok(()),
         Status::Usage { word } => put_usage(text, words, word),
-        Status::Script { line, why } => put_of_script(alloc, text, words, u64::from(line), why),
+        Status::Script { line, why } => {
+            put_of_script(alloc, text, words, u64::from(line), why, stranger)
+        }
         Status::Line { number } => put_of_trace(alloc, text, words, number, stranger),
         Status::NoCycle { word } => put_of_cycle(text, words, word),
         Status::Wav { place, why } => put_of_file(text, &[], words, place, wav_said(why)),
@@ -263,9 +266,9 @@ fn put_sentence(
 }
 
 /// The sentence that says why no picture was printed, by the words of the command line, by the
-/// status, by the name of the node for which a line of a trace was refused, or nothing, and by why
-/// the files say that their last load failed: nothing where all was done. Takes memory for the
-/// text.
+/// status, by the line of the script that was refused, or the name of the node for which a line of
+/// a trace was, or nothing, and by why the files say that their last load failed: nothing where all
+/// was done. Takes memory for the text.
 pub fn explain(
     alloc: Global,
     words: &[String],

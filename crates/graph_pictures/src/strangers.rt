@@ -3,6 +3,7 @@ ghost use Rattle.std.specs.Prelude.{◌≡◌, ◌-◌, [], IfOk, option_copied,
 ghost use Rattle.cycle_trace.specs.TraceReading.{trace_lines};
 ghost use Rattle.graph_pictures.specs.Asked.{asked_of};
 ghost use Rattle.graph_pictures.specs.LineWords.{begins, is_of_link, is_of_end, is_of_node};
+ghost use Rattle.graph_pictures.specs.Reading.{script_line};
 ghost use Rattle.graph_pictures.specs.Strangers.{node_part, has_node, missed_at, stranger, is_unasked, is_strange, link_asked, stranger_name};
 
 use crate::asked::{Asked, asked_of, is_asked, tells_unlink};
@@ -177,4 +178,13 @@ pub(crate) fn stranger_in(
     let asked = asked_of(alloc, script)?;
     let names = script.names.as_slice();
     stranger_name(alloc, names, asked.as_slice(), line_at(text, number))
+}
+
+/// The line of a script that is refused, by its number, counted from 1, up to a carriage return.
+/// Takes memory for it.
+pub(crate) fn script_line(alloc: Global, text: &[u8], number: u32) -> Result<Text, Memory>
+    ensures { IfOk result (λ line. line ≡ script_line text.now number) }
+{
+    let (line, _more) = next_piece(line_at(text, u64::from(number)), b'\r');
+    Items::from_slice(alloc, line)
 }

@@ -15,8 +15,8 @@ use Rattle.graph_pictures.specs.StatusText.{status_number}
 use Rattle.graph_pictures.specs.Words.{request_of}
 
 -- PRINTED: the number is that of a status, which the output follows; what the files hold stays; and
--- the sentence is that of the status, with the name for which a line of a trace was refused, and
--- the reason that the files tell of a load that failed
+-- the sentence is that of the status, with the line of the script that was refused, or the name for
+-- which a line of a trace was, and the reason that the files tell of a load that failed
 pub record HasPrinted (words : Words) (before now : Outside) (reason : Option FileWhy) (code : ℕ)
     (sentence : List ℕ) : Type 0 where
   pub status : Status

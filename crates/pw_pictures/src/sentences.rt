@@ -226,3 +226,29 @@ fn a_refused_line_of_a_script_says_why(rt: HostRuntime) -> Result<(), Fail> {
     }
     Ok(())
 }
+
+#[test]
+fn a_refused_line_of_a_script_is_cut(rt: HostRuntime) -> Result<(), Fail> {
+    let alloc = rt.alloc();
+    let (mut line, mut wanted) = (text(alloc, "gain ")?, text(alloc, "")?);
+    wanted.extend(b"pipegraph-pictures: s:7: gain ")?;
+    for _ in 0..195 {
+        line.extend(b"a")?;
+        wanted.extend(b"a")?;
+    }
+    let words = words_of(alloc, "graph s")?;
+    let status = Status::Script {
+        line: 7,
+        why: ScriptWhy::Arguments,
+    };
+    let whole = explain(alloc, words.as_slice(), status, line.as_slice(), None)?;
+    line.extend(b"b")?;
+    let cut = explain(alloc, words.as_slice(), status, line.as_slice(), None)?;
+    let said = b": too few words, or too many\n".as_slice();
+    assert!(rt; whole.as_slice().starts_with(wanted.as_slice()));
+    assert!(rt; whole.len() == wanted.len() + said.len());
+    wanted.extend(b"..")?;
+    wanted.extend(said)?;
+    assert!(rt; cut.as_slice() == wanted.as_slice());
+    Ok(())
+}

@@ -435,11 +435,12 @@ fn a_trace_is_refused_at_its_first_bad_line(rt: HostRuntime) -> Result<(), Fail>
     Ok(())
 }
 
-// What words come to, where `s` holds `TWO` and `t` this text of a run: both outputs, and the
+// What words come to, where `s` holds this script and `t` this text of a run: both outputs, and the
 // number 2.
-fn refuses_trace<R: AllocGlobal + Abort>(
+fn refuses<R: AllocGlobal + Abort>(
     rt: &R,
     line: &str,
+    script: &str,
     trace: &str,
     out: &str,
     said: &str,
@@ -447,13 +448,74 @@ fn refuses_trace<R: AllocGlobal + Abort>(
     let alloc = rt.alloc();
     let words = words_of(alloc, line)?;
     let mut files = SureFiles::new(alloc)?;
-    files.add_file(alloc, &text(alloc, "s")?, TWO.as_bytes())?;
+    files.add_file(alloc, &text(alloc, "s")?, script.as_bytes())?;
     files.add_file(alloc, &text(alloc, "t")?, trace.as_bytes())?;
     let (given, mut told) = (SureSink::new(alloc)?, SureSink::new(alloc)?);
     let exit = run_read(&Pictures, alloc, Ok(words), files, given, &mut told);
     assert_eq!(rt; exit.code, 2);
-    assert!(rt; exit.out.bytes().as_slice() == out.as_bytes(), "{trace}");
-    assert!(rt; told.bytes().as_slice() == said.as_bytes(), "{trace}");
+    assert!(rt; exit.out.bytes().as_slice() == out.as_bytes(), "{said}");
+    assert!(rt; told.bytes().as_slice() == said.as_bytes(), "{said}");
+    Ok(())
+}
+
+// The same of `TWO`.
+fn refuses_trace<R: AllocGlobal + Abort>(
+    rt: &R,
+    line: &str,
+    trace: &str,
+    out: &str,
+    said: &str,
+) -> Result<(), Memory> {
+    refuses(rt, line, TWO, trace, out, said)
+}
+
+#[test]
+fn a_refused_line_of_a_script_is_shown(rt: HostRuntime) -> Result<(), Fail> {
+    let rows = [
+        (
+            "quantum 4\nlink vox.out mx.a\ncycles 1\n",
+            "script 2 7\n",
+            "s:2: link vox.out mx.a: no line before this one makes a node of this name",
+        ),
+        (
+            "cycles 1\r\ngain a 01\r\nplay\r\n",
+            "script 2 4\n",
+            "s:2: gain a 01: a number is out of range, or has the wrong form",
+        ),
+        (
+            "# a comment\n\nplay",
+            "script 3 2\n",
+            "s:3: play: the first word is no command",
+        ),
+        (
+            " gain\ta\\b 1\n",
+            "script 1 5\n",
+            "s:1:  gain\\x09a\\\\b 1: a name, a port or a file word has the wrong form",
+        ),
+        // A carriage return is a blank, and the line is shown up to it.
+        (
+            "gain a\r1 2\n",
+            "script 1 3\n",
+            "s:1: gain a: too few words, or too many",
+        ),
+        (
+            "\rplay\n",
+            "script 1 2\n",
+            "s:1: the first word is no command",
+        ),
+        (
+            "cycles 1\n# \u{dc}bung\n",
+            "script 2 1\n",
+            "s:2: a byte that no script may have",
+        ),
+    ];
+    for (script, out, cause) in rows {
+        let said = format!(in rt.alloc(); "pipegraph-pictures: {cause}\n")?;
+        refuses(&rt, "graph s", script, "", out, &said)?;
+        refuses(&rt, "graph s t", script, "", out, &said)?;
+        refuses(&rt, "graph s t t", script, "", out, &said)?;
+        refuses(&rt, "timeline s t", script, "", out, &said)?;
+    }
     Ok(())
 }
 
@@ -660,7 +722,8 @@ fn a_sentence_goes_to_the_error_output_alone(rt: HostRuntime) -> Result<(), Fail
     comes_to(&rt, Ok(wave), None, 5, "absent 1\n", absent)?;
     let wave = words_of(alloc, "wave w")?;
     comes_to(&rt, Ok(wave), Some(9), 5, "absent 1\n", "pipegraph")?;
-    let refused = "pipegraph-pictures: g:1: a number is out of range, or has the wrong form\n";
+    let refused =
+        "pipegraph-pictures: g:1: gain a 01: a number is out of range, or has the wrong form\n";
     let graph = words_of(alloc, "graph g")?;
     comes_to(&rt, Ok(graph), None, 2, "script 1 4\n", refused)?;
     Ok(())

@@ -7,7 +7,7 @@ use Rattle.graph_pictures.proofs.reading.picture_of.Goals as goal
 
 pub returns-in-Graph-clause-told : goal.returns-in-Graph-clause-told
 returns-in-Graph-clause-told g c = λ h.
-    subst (λ q. Ends statuses (IsPicture c.args.stranger.now q (names_in (g.F.Files.held c.args.files.now))) c.read_graph.result) (sym c.in-Graph.is)
+    subst (λ q. Ends statuses (IsPicture c.read_graph.new.stranger q (names_in (g.F.Files.held c.args.files.now))) c.read_graph.result) (sym c.in-Graph.is)
     (c.read_graph.ensures.told h)
 
 pub returns-in-RunGraph-clause-told : goal.returns-in-RunGraph-clause-told

@@ -12,10 +12,10 @@ use Rattle.graph_pictures.proofs.reading.read_script.Goals as goal
 pub returns-in-Err-clause-told : goal.returns-in-Err-clause-told
 returns-in-Err-clause-told g c = λ h.
     made_stops (IsLoad statuses (names_in (g.F.Files.held c.args.files.now)) 0 c.args.name.now script_bytes_limit (S.Limit 0 W.ScriptBytes))
-    ParsesTo c.in-Err.status (c.in-Err.ensures.told h)
+    (ParsesTo c.args.stranger.now) c.in-Err.status (c.in-Err.ensures.told h)
 
 pub returns-in-Ok-clause-told : goal.returns-in-Ok-clause-told
 returns-in-Ok-clause-told g c = λ h.
     made_goes (IsLoad statuses (names_in (g.F.Files.held c.args.files.now)) 0 c.args.name.now script_bytes_limit (S.Limit 0 W.ScriptBytes))
-    ParsesTo IsSoundScript c.in-Ok.bytes c.as_slice.result.now c.parsed.result (c.in-Ok.ensures.told h) c.as_slice.ensures
+    (ParsesTo c.parsed.new.stranger) IsSoundScript c.in-Ok.bytes c.as_slice.result.now c.parsed.result (c.in-Ok.ensures.told h) c.as_slice.ensures
     c.parsed.ensures.read c.parsed.ensures.cause
