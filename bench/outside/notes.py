@@ -47,8 +47,8 @@ LINKS = [
     ("link a.out o.in\nmeter m\nsink p p.wav\nsink q o.wav\nlink a.out q.in\n",
      "link a.out o.in 48000 1 2\nlink a.out q.in 48000 1 2\n",
      [(5, '"o.wav" is written by a later sink too; a regular file keeps what is written last'),
-      (9, '"m" had no format at the end, so it has no peak'),
-      (10, '"p" had no format at the end, so it does not write "p.wav"')])]
+      (9, '"m" had no format at the end, so it has no peak; no link line names "m"'),
+      (10, '"p" had no format at the end, so it does not write "p.wav"; no link line names "p"')])]
 
 # Lines after START, and below the cause of each refused link what both sides admit; nothing where no
 # key is the cause.
@@ -84,7 +84,8 @@ SINKS = [
      [(3, f'"o" {EMPTY} "o.wav" is an empty WAV file: {NEVER}{LEFT}{GROUPS}')]),
     ("quantum 4\nsource s in.wav\nsink o in.wav\nsink p in.wav\nlink s.out p.in\ncycles 1\n",
      "unused o\nwrote p 4\n",
-     [(3, '"o" had no format at the end, so it does not write "in.wav", which another sink writes'),
+     [(3, '"o" had no format at the end, so it does not write "in.wav", which another sink writes; '
+      'no link line names "o"'),
       (4, '"in.wav" is a source\'s file too: it was read first, and written after that')]),
     ("quantum 4\nsquare a 48000 1 2 32767\nsquare b 48000 1 4 32766\nsink o o.wav\nsink p p.wav\ngain g 257\n"
      "link a.out o.in\nlink b.out g.in\nlink g.out p.in\ncycles 1\n", "wrote o 4\nwrote p 4\n",

@@ -218,8 +218,10 @@ const SINKS: &'static [Noted] = &[
         seen: Seen::Run(&[], &[Peak { node: 3, value: 3 }]),
         stored: &[(3, "o.wav", &[0])],
         notes: b"pipegraph: t.graph:1: \"o\" had no format at the end, \
-            so it does not write \"o.wav\", which another sink writes\n\
-            pipegraph: t.graph:2: \"m\" had no format at the end, so it has no peak\n",
+            so it does not write \"o.wav\", which another sink writes; \
+            no link line names \"o\"\n\
+            pipegraph: t.graph:2: \"m\" had no format at the end, so it has no peak; \
+            no link line names \"m\"\n",
         ..RUN
     },
     Noted {
@@ -229,8 +231,10 @@ const SINKS: &'static [Noted] = &[
         notes: b"pipegraph: t.graph:1: \"o.wav\" is written by a later sink too; \
             a regular file keeps what is written last\n\
             pipegraph: t.graph:4: \"r\" had no format at the end, \
-            so it does not write \"o.wav\", which another sink writes\n\
-            pipegraph: t.graph:5: \"s\" had no format at the end, so it does not write \"s.wav\"\n",
+            so it does not write \"o.wav\", which another sink writes; \
+            no link line names \"r\"\n\
+            pipegraph: t.graph:5: \"s\" had no format at the end, \
+            so it does not write \"s.wav\"; no link line names \"s\"\n",
         ..RUN
     },
     Noted {
@@ -244,7 +248,8 @@ const SINKS: &'static [Noted] = &[
             pipegraph: t.graph:3: \"v.wav\" is a source's file too: \
             it was read first, and written after that\n\
             pipegraph: t.graph:4: \"q\" had no format at the end, \
-            so it does not write \"v.wav\", which another sink writes\n",
+            so it does not write \"v.wav\", which another sink writes; \
+            no link line names \"q\"\n",
         ..RUN
     },
     // Words with backslashes and quotes; a file that is called as a sink's name is.
@@ -260,7 +265,7 @@ const SINKS: &'static [Noted] = &[
             pipegraph: t.graph:1: \"a\\\\b\"c.wav\" is the whole name of the file; \
             quotes are a part of it\n\
             pipegraph: t.graph:4: \"q\" had no format at the end, \
-            so it does not write \"\"\\\\\"\"\n",
+            so it does not write \"\"\\\\\"\"; no link line names \"q\"\n",
         ..RUN
     },
     // A dash, before and behind a file that is stored too, and one of a sink without a format.
@@ -276,14 +281,30 @@ const SINKS: &'static [Noted] = &[
             standard output is /dev/stdout\n\
             pipegraph: t.graph:2: \"p\" has 1 sample at the limit of 16 bits\n\
             pipegraph: t.graph:4: \"r\" had no format at the end, \
-            so it does not write \"-\", which another sink writes\n",
+            so it does not write \"-\", which another sink writes; \
+            no link line names \"r\"\n",
+        ..RUN
+    },
+    // A link that was taken away, and a line that takes away one that never was.
+    Noted {
+        script: Some(
+            b"square q 48000 1 2 5\nsink o o.wav\nsink p p.wav\nlink q.out o.in\nunlink q.out o.in\n\
+            unlink q.out p.in\n",
+        ),
+        seen: Seen::Run(&[MADE, LineOutcome::Gone, LineOutcome::NotThere], &[]),
+        stored: &[],
+        notes: b"pipegraph: t.graph:2: \"o\" had no format at the end, \
+            so it does not write \"o.wav\"\n\
+            pipegraph: t.graph:3: \"p\" had no format at the end, \
+            so it does not write \"p.wav\"; no link line names \"p\"\n",
         ..RUN
     },
     // Of two meters the one without a format.
     Noted {
         script: Some(b"meter n\nmeter m\ncycles 1\n"),
         seen: Seen::Ran(&[], &[Peak { node: 1, value: 0 }], &[(63, &[1, 63])]),
-        notes: b"pipegraph: t.graph:1: \"n\" had no format at the end, so it has no peak\n",
+        notes: b"pipegraph: t.graph:1: \"n\" had no format at the end, so it has no peak; \
+            no link line names \"n\"\n",
         ..RUN
     },
     Noted {
@@ -310,7 +331,8 @@ const EMPTY: &'static [Noted] = &[
             WAV file: the script has no cycles line and no drain line\n\
             pipegraph: t.graph:3: \"m\" got no frames, so its peak is 0: \
             the script has no cycles line and no drain line\n\
-            pipegraph: t.graph:4: \"cycles\" had no format at the end, so it has no peak\n",
+            pipegraph: t.graph:4: \"cycles\" had no format at the end, so it has no peak; \
+            no link line names \"cycles\"\n",
         ..RUN
     },
     Noted {
@@ -474,7 +496,8 @@ const CLIPPED: &'static [Noted] = &[
             it was read first, and written after that\n\
             pipegraph: t.graph:1: \"o\" has 2 samples at the limit of 16 bits\n\
             pipegraph: t.graph:4: \"p\" had no format at the end, \
-            so it does not write \"o.wav\", which another sink writes\n",
+            so it does not write \"o.wav\", which another sink writes; \
+            no link line names \"p\"\n",
         ..RUN
     },
     Noted {

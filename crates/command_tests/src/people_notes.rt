@@ -117,7 +117,8 @@ const NOTES: &'static [Asked] = &[
             peak m 5\npeak n 5\nunused z\n",
         said: b"s.graph:7: \"c.out\" to \"m.in\" is no link: no common channels (key 65540); \
             where one side has one channel and the other two, map NAME 1 0,0 makes two of one\n\
-            pipegraph: s.graph:9: \"z\" had no format at the end, so it has no peak",
+            pipegraph: s.graph:9: \"z\" had no format at the end, so it has no peak; \
+            no link line names \"z\"",
         ..RUN
     },
     Asked {
@@ -375,14 +376,15 @@ const SINKS: &'static [Asked] = &[
         code: 0,
         out: b"link s.out p.in 48000 1 2\nunused o\nwrote p 4\n",
         said: b"s.graph:3: \"o\" had no format at the end, so it does not write \"o.wav\", \
-            which another sink writes",
+            which another sink writes; no link line names \"o\"",
         ..RUN
     },
     Asked {
         script: b"quantum 2\nmeter n\nsquare q 48000 1 2 5\nmeter m\nlink q.out m.in\ncycles 1\n",
         code: 0,
         out: b"link q.out m.in 48000 1 2\nunused n\npeak m 5\n",
-        said: b"s.graph:2: \"n\" had no format at the end, so it has no peak",
+        said: b"s.graph:2: \"n\" had no format at the end, so it has no peak; \
+            no link line names \"n\"",
         ..RUN
     },
 ];

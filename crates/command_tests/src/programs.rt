@@ -61,7 +61,8 @@ const ROWS: &'static [Told] = &[
         code: 0,
         out: b"link s.out o.in 48000 1 2\nnolink s.out o.in twice\nwrote o 4\nunused m\n",
         errors: b"pipegraph: s.graph:6: \"s.out\" to \"o.in\" is no link: it is there already\n\
-            pipegraph: s.graph:4: \"m\" had no format at the end, so it has no peak\n",
+            pipegraph: s.graph:4: \"m\" had no format at the end, so it has no peak; \
+            no link line names \"m\"\n",
         next_load: 3,
         ..REFUSED
     },

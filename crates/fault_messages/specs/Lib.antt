@@ -36,6 +36,7 @@ pub mod SinkFiles
 pub mod SinkNotes
 pub mod SinkWaves
 pub mod UnknownNames
+pub mod UnusedNodes
 pub mod Usages
 pub mod WordRules
 pub mod working

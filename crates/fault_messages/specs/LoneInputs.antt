@@ -1,24 +1,12 @@
 -- A mixer of which the script links one input alone, in words. Source: this project's own.
 use Rattle.std.specs.Prelude.{ℕ, Bool, true, false, List, [], ◌++◌, codes, flat_map}
-use Rattle.std.specs.List.{list_any}
-use Rattle.pw_graph.specs.declared.ids.PortId.{PortId}
-use Rattle.pw_graph.specs.Pools.{is_same_port}
 use Rattle.graph_script.specs.declared.command.Command.{Command}
 use Rattle.graph_script.specs.declared.command.Command.TheVariants as C
-use Rattle.graph_script.specs.declared.script.Line.{Line}
 use Rattle.graph_script.specs.declared.script.Script.{Script}
 use Rattle.fault_messages.specs.NoteHeads.{note_at}
 use Rattle.fault_messages.specs.Places.{Words, quoted}
+use Rattle.fault_messages.specs.ScriptLines.{has_link_to}
 use Rattle.fault_messages.specs.SinkNotes.{name_of}
-
--- WHETHER a line links something to an input of a node
-abbrev pub links_to : PortId → Command → Bool
-links_to port (C.Link from to) = is_same_port to port
-links_to port _ = false
-
-abbrev pub has_link_to : List Line → ℕ → ℕ → Bool
-has_link_to lines node input =
-    list_any (λ line. links_to (record { node = node; port = input }) line.command) lines
 
 -- of a mixer, by whether its first and its second input are linked
 unfoldable pub nothing_at_a : List ℕ → List ℕ

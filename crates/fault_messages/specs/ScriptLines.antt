@@ -1,6 +1,8 @@
 -- What the lines of a script ask for, where a note turns on it. Source: this project's own.
 use Rattle.std.specs.Prelude.{ℕ, ◌||◌, Bool, true, false, List, bytes_eq}
 use Rattle.std.specs.List.{list_any}
+use Rattle.pw_graph.specs.declared.ids.PortId.{PortId}
+use Rattle.pw_graph.specs.Pools.{is_same_port}
 use Rattle.graph_script.specs.declared.command.Command.{Command}
 use Rattle.graph_script.specs.declared.command.Command.TheVariants as C
 use Rattle.graph_script.specs.declared.script.Line.{Line}
@@ -37,3 +39,12 @@ reads file _ = false
 
 abbrev pub is_read : List Line → List ℕ → Bool
 is_read lines file = list_any (λ line. reads file line.command) lines
+
+-- WHETHER a line links something to an input of a node
+abbrev pub links_to : PortId → Command → Bool
+links_to port (C.Link from to) = is_same_port to port
+links_to port _ = false
+
+abbrev pub has_link_to : List Line → ℕ → ℕ → Bool
+has_link_to lines node input =
+    list_any (λ line. links_to (record { node = node; port = input }) line.command) lines

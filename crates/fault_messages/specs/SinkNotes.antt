@@ -1,6 +1,6 @@
 -- Sinks and meters that got no format or no frames, the files of sinks, and samples at a limit, in
 -- words. Source: this project's own.
-use Rattle.std.specs.Prelude.{ℕ, ◌==◌, ℤ, List, [], ◌++◌, codes, find, flat_map, slice_index_or, Option, Some, None, if◌then◌else◌}
+use Rattle.std.specs.Prelude.{ℕ, ◌==◌, ℤ, List, [], ◌++◌, find, flat_map, slice_index_or, Option, Some, None}
 use Rattle.command_frame.specs.declared.work.Store.{Store}
 use Rattle.graph_script.specs.declared.command.Command.{Command}
 use Rattle.graph_script.specs.declared.command.Command.TheVariants as C
@@ -11,25 +11,10 @@ use Rattle.wav_files.specs.declared.outcome.Peak.{Peak}
 use Rattle.fault_messages.specs.ClippedSinks.{clipped_note}
 use Rattle.fault_messages.specs.EmptySinks.{empty_note, still_note}
 use Rattle.fault_messages.specs.NoteHeads.{note_at}
-use Rattle.fault_messages.specs.Places.{Words, quoted}
-use Rattle.fault_messages.specs.SinkFiles.{is_written, later_note, source_note, script_note, name_note}
+use Rattle.fault_messages.specs.Places.{Words}
+use Rattle.fault_messages.specs.SinkFiles.{later_note, source_note, script_note, name_note}
 use Rattle.fault_messages.specs.SinkWaves.{samples_at}
-
--- of a node without a format; another sink may write the sink's file
-unfoldable pub unused_sink : List ℕ → List ℕ → List ℕ
-unused_sink name file = quoted name ++ (codes " had no format at the end, so it does not write "
-    ++ quoted file)
-
-unfoldable pub unused_other : List ℕ → List ℕ → List ℕ
-unused_other name file = quoted name ++ (codes " had no format at the end, so it does not write "
-    ++ (quoted file ++ codes ", which another sink writes"))
-
-abbrev pub unused_said : List Store → List ℕ → List ℕ → List ℕ
-unused_said stores name file =
-    if is_written stores file then unused_other name file else unused_sink name file
-
-unfoldable pub unused_meter : List ℕ → List ℕ
-unused_meter name = quoted name ++ codes " had no format at the end, so it has no peak"
+use Rattle.fault_messages.specs.UnusedNodes.{sink_said, meter_said}
 
 -- the name of a node
 abbrev pub name_of : Script → ℕ → List ℕ
@@ -50,7 +35,7 @@ wave_notes words script plan samples n node file =
 abbrev pub sink_note : Words → Script → Plan → List Store → Option (List ℤ) → ℕ → ℕ → List ℕ
     → List ℕ
 sink_note words script plan stores None n node file =
-    note_at words n (unused_said stores (name_of script node) file)
+    note_at words n (sink_said script.lines stores node (name_of script node) file)
 sink_note words script plan stores (Some samples) n node file =
     file_notes words script.lines stores n file ++ wave_notes words script plan samples n node file
 
@@ -58,7 +43,8 @@ abbrev pub peak_of : List Peak → ℕ → Option Peak
 peak_of peaks node = find (λ peak. peak.node == node) peaks
 
 abbrev pub meter_note : Words → Script → Plan → Option Peak → ℕ → ℕ → List ℕ
-meter_note words script plan None n node = note_at words n (unused_meter (name_of script node))
+meter_note words script plan None n node =
+    note_at words n (meter_said script.lines node (name_of script node))
 meter_note words script plan (Some peak) n node =
     still_note words script plan peak.value n node (name_of script node)
 

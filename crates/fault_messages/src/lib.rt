@@ -43,6 +43,7 @@ mod sink_files;
 mod sink_notes;
 mod sink_waves;
 mod unknown_names;
+mod unused_nodes;
 mod usages;
 mod word_rules;
 

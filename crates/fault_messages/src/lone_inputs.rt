@@ -1,32 +1,14 @@
 //! A mixer of which the script links one input alone, in words.
 ghost use Rattle.std.specs.Prelude.{◌≡◌, ◌++◌, map, string_bytes, OnOk};
-ghost use Rattle.fault_messages.specs.LoneInputs.{links_to, has_link_to, nothing_at_a, nothing_at_b};
+ghost use Rattle.fault_messages.specs.LoneInputs.{nothing_at_a, nothing_at_b};
 ghost use Rattle.fault_messages.specs.LoneInputs.{lone_said, lone_part, lone_notes};
 
 use crate::note_heads::put_note_head;
 use crate::putting::put_behind;
+use crate::script_lines::has_link_to;
 use crate::sink_notes::name_of;
 use graph_script::{Command, Line, Script};
-use pw_graph::{PortId, is_same_port};
 use pw_lists::{Memory, Text};
-
-// Whether a command links something to this input.
-fn links_to(port: PortId, command: &Command) -> bool
-    ensures { result ≡ links_to port command.now }
-{
-    match command {
-        Command::Link { to, .. } => is_same_port(*to, port),
-        _ => false,
-    }
-}
-
-// Whether a line of the script links something to this input of a node.
-fn has_link_to(lines: &[Line], node: u32, input: u32) -> bool
-    ensures { result ≡ has_link_to lines.now node input }
-{
-    let port = PortId { node, port: input };
-    lines.iter().any(|line| links_to(port, &line.command))
-}
 
 #[tactic(auto, unfolding(crate::specs::LoneInputs::nothing_at_a))]
 fn put_nothing_at_a(text: &mut Text, name: &[u8]) -> Result<(), Memory>

@@ -1,71 +1,21 @@
 //! Sinks and meters that got no format or no frames, the files of sinks, and samples at a limit, in
 //! words.
 ghost use Rattle.std.specs.Prelude.{◌≡◌, ◌++◌, map, string_bytes, option_copied, OnOk};
-ghost use Rattle.fault_messages.specs.SinkNotes.{unused_sink, unused_other, unused_said, unused_meter, file_notes, wave_notes};
-ghost use Rattle.fault_messages.specs.SinkNotes.{sink_note, peak_of, meter_note, name_of, sink_part, sink_notes};
+ghost use Rattle.fault_messages.specs.SinkNotes.{file_notes, wave_notes, sink_note, peak_of};
+ghost use Rattle.fault_messages.specs.SinkNotes.{meter_note, name_of, sink_part, sink_notes};
 ghost use Rattle.fault_messages.specs.SinkWaves.{samples_at};
 
 use crate::clipped_sinks::put_clipped_note;
 use crate::empty_sinks::{put_empty_note, put_still_note};
 use crate::note_heads::put_note_head;
-use crate::putting::{put_behind, put_quoted_pair, put_two_quoted};
-use crate::sink_files::{
-    is_written, put_later_note, put_name_note, put_script_note, put_source_note,
-};
+use crate::sink_files::{put_later_note, put_name_note, put_script_note, put_source_note};
 use crate::sink_waves::samples_at;
+use crate::unused_nodes::{put_meter_said, put_sink_said};
 use graph_script::{Command, Line, Script};
 use pw_graph::Plan;
 use pw_lists::{Memory, Text};
 use run_results::Store;
 use wav_files::Peak;
-
-#[tactic(auto, unfolding(crate::specs::SinkNotes::unused_sink))]
-fn put_unused_sink(text: &mut Text, name: &[u8], file: &[u8]) -> Result<(), Memory>
-    ensures { OnOk result (text.new ≡ text.old ++ unused_sink name.now file.now) }
-{
-    put_quoted_pair(
-        text,
-        name,
-        b" had no format at the end, so it does not write ",
-        file,
-    )
-}
-
-#[tactic(auto, unfolding(crate::specs::SinkNotes::unused_other))]
-fn put_unused_other(text: &mut Text, name: &[u8], file: &[u8]) -> Result<(), Memory>
-    ensures { OnOk result (text.new ≡ text.old ++ unused_other name.now file.now) }
-{
-    put_two_quoted(
-        text,
-        name,
-        b" had no format at the end, so it does not write ",
-        file,
-        b", which another sink writes",
-    )
-}
-
-// Of a sink without a format, whose file another may write.
-fn put_unused_said(
-    text: &mut Text,
-    stores: &[Store],
-    name: &[u8],
-    file: &[u8],
-) -> Result<(), Memory>
-    ensures { OnOk result (text.new ≡ text.old ++ unused_said stores.now name.now file.now) }
-{
-    if is_written(stores, file) {
-        put_unused_other(text, name, file)
-    } else {
-        put_unused_sink(text, name, file)
-    }
-}
-
-#[tactic(auto, unfolding(crate::specs::SinkNotes::unused_meter))]
-fn put_unused_meter(text: &mut Text, name: &[u8]) -> Result<(), Memory>
-    ensures { OnOk result (text.new ≡ text.old ++ unused_meter name.now) }
-{
-    put_behind(text, name, b" had no format at the end, so it has no peak")
-}
 
 // Of the file of a sink that stored samples: that a later sink writes it too, that a source reads
 // it, that it is the script, or what its name is.
@@ -123,8 +73,9 @@ fn put_sink_note(
 {
     match samples_at(stores, number) {
         None => {
+            let name = name_of(script, node);
             put_note_head(text, words, number)?;
-            put_unused_said(text, stores, name_of(script, node), file)?;
+            put_sink_said(text, script.lines.as_slice(), stores, node, name, file)?;
             text.extend(b"\n")
         }
         Some(samples) => {
@@ -164,7 +115,7 @@ fn put_meter_note(
     match peak {
         None => {
             put_note_head(text, words, number)?;
-            put_unused_meter(text, name)?;
+            put_meter_said(text, script.lines.as_slice(), node, name)?;
             text.extend(b"\n")
         }
         Some(peak) => put_still_note(text, words, script, plan, peak.value, number, node, name),
