@@ -277,7 +277,8 @@ def huge(place):
         file.write(wav([])[:40] + b"\xff\xff\xff\xff")
         file.truncate(3 << 30)
     limited(place, "sparse")
-    for words, most in [(["run", "sparse"], 16), (["dump", "sparse"], 16),
+    # The system counts the memory of who asks, some 16 MiB, to what is started.
+    for words, most in [(["run", "sparse"], 32), (["dump", "sparse"], 32),
                         (["run", "source.graph"], 300),
                         (["check", "empty.graph", "sparse"], 300)]:
         answer = place.ask(*words)
