@@ -65,16 +65,19 @@ def eight():
     return Graph("eight", lines + ["drain"], waves, 26, 56250)
 
 
-def wide():
-    """31 stereo sources of a minute with gains, into one sink: as many nodes as there may be."""
+def wide(loops=0):
+    """31 stereo sources of a minute with gains, into one sink: as many nodes as there may be. Where
+    there are loops, each source and its gain name one."""
     lines = []
     for i in range(31):
         lines += [f"source s{i} wide_in{i}.wav", f"gain g{i} {20 + i}"]
     lines += ["sink o OUT", "driver o 1"]
+    if loops:
+        lines += [f"loop {name}{i} {i % loops}" for i in range(31) for name in "sg"]
     for i in range(31):
         lines += [f"link s{i}.out g{i}.in", f"link g{i}.out o.in"]
     waves = [(f"wide_in{i}.wav", 2, 2880000) for i in range(31)]
-    return Graph("wide", lines + ["drain"], waves, 63, 2813)
+    return Graph(f"wide_{loops}" if loops else "wide", lines + ["drain"], waves, 63, 2813)
 
 
 def lanes(count=4, length=14, quantum=8192, cycles=2000):
@@ -94,6 +97,51 @@ def lanes(count=4, length=14, quantum=8192, cycles=2000):
     return Graph("lanes", lines + [f"cycles {cycles}"], waves, count * (length + 1) + 1, cycles)
 
 
+def squares(name, count, length, cycles, kind, loops=0):
+    """Stereo squares with a chain of nodes each, into one sink; `kind` gives the line of each node
+    after the square. Where there are loops, each chain names one."""
+    nodes, named, links = ["quantum 1024"], [], []
+    for i in range(count):
+        names = [f"s{i}"] + [f"g{i}_{j}" for j in range(length)]
+        nodes += [f"square s{i} 48000 2 {90 + i} 1000"]
+        nodes += [kind(i, j, node) for j, node in enumerate(names[1:])]
+        named += [f"loop {node} {i % loops}" for node in names] if loops else []
+        links += [f"link {a}.out {b}.in" for a, b in zip(names, names[1:])]
+        links += [f"link {names[-1]}.out o.in"]
+    lines = nodes + ["sink o OUT", "driver o 1"] + named + links + [f"cycles {cycles}"]
+    return Graph(f"{name}_{loops}" if loops else name, lines, [], count * (length + 1) + 1, cycles)
+
+
+def squares_with_gains(loops=0):
+    """31 squares with a gain each."""
+    return squares("squares", 31, 1, 2813, lambda i, j, node: f"gain {node} {20 + i}", loops)
+
+
+def chains(loops=0):
+    """Four squares with 14 gains each."""
+    return squares("chains", 4, 14, 3000, lambda i, j, node: f"gain {node} 255", loops)
+
+
+def squares_with_delays(loops=0):
+    """Eight squares with a gain and a delay each."""
+    return squares("delays", 8, 2, 6000,
+                   lambda i, j, node: f"delay {node} {100 * i}" if j else f"gain {node} 200", loops)
+
+
+def two(name, cycles, quantum=64, channels=1, frames=1000):
+    """Two sources, one sink."""
+    lines = [f"quantum {quantum}", "source a two_in.wav", "source b two_in.wav", "sink o OUT",
+             "driver o 1", "link a.out o.in", "link b.out o.in", f"cycles {cycles}"]
+    return Graph(name, lines, [("two_in.wav", channels, frames)], 3, cycles)
+
+
+def one_square():
+    """One square to a sink, a sample a cycle."""
+    lines = ["quantum 1", "square s 48000 1 480 8000", "sink o OUT", "driver o 1",
+             "link s.out o.in", "cycles 100000"]
+    return Graph("square", lines, [], 2, 100000)
+
+
 def many(epochs=1):
     """31 squares to 30 gains to one sink: 62 nodes and 230 links, 1,024 cycles of 16 samples."""
     lines = ["quantum 16"] + [f"square s{i} 48000 1 {5 + i} {100 + i}" for i in range(31)]
@@ -104,15 +152,21 @@ def many(epochs=1):
     return Graph("many" if epochs == 1 else f"many_{epochs}", lines, [], 62, 1024)
 
 
+WAITING = [(str(k), ["--loops", str(k)]) for k in (0, 1, 2, 4, 16)]
+WAITING += [("3 --steal", ["--loops", "3", "--steal"])]
+ONE_PROCESSOR = ["taskset", "-c", "0"]
+
+
 class Took(NamedTuple):
     wall: float  # seconds
     own: float  # processor seconds
     peak: float  # MiB
     status: int
+    sleeps: int  # how often its threads went to sleep
 
     def least(self, other):
-        return Took(min(self.wall, other.wall), min(self.own, other.own),
-                    max(self.peak, other.peak), self.status or other.status)
+        return Took(min(self.wall, other.wall), min(self.own, other.own), max(self.peak, other.peak),
+                    self.status or other.status, min(self.sleeps, other.sleeps))
 
 
 class Bench:
@@ -163,8 +217,8 @@ class Bench:
         told = self.folder / "took"
         subprocess.run([self.twin, "take", told, str(SECONDS), *command], cwd=self.folder,
                        stderr=subprocess.DEVNULL, check=True)
-        wall, own, peak, status = told.read_text().split()
-        return Took(float(wall), float(own), int(peak) / 1024, int(status))
+        wall, own, peak, status, sleeps = told.read_text().split()
+        return Took(float(wall), float(own), int(peak) / 1024, int(status), int(sleeps))
 
     def text(self, command):
         """What one run prints."""

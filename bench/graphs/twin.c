@@ -3,7 +3,8 @@
    twin make FILE CHANNELS FRAMES SEED     a WAV file of noise
    twin gain IN OUT GAIN             one gain from file to file in pieces of 256 KiB
    twin take FILE SECONDS COMMAND..  runs a command, for at most so many seconds, and gives FILE
-                                     its seconds, processor seconds, KiB and status
+                                     its seconds, processor seconds, KiB, status and how often
+                                     its threads went to sleep
    What a run prints and stores is what pipegraph prints and stores. */
 #include "twin.h"
 #include <fcntl.h>
@@ -39,7 +40,7 @@ static int take(const char *to, const char *seconds, char **command) {
     double own = used.ru_utime.tv_sec + used.ru_stime.tv_sec
                  + (used.ru_utime.tv_usec + used.ru_stime.tv_usec) * 1e-6;
     int code = WIFEXITED(status) ? WEXITSTATUS(status) : 128 + WTERMSIG(status);
-    fprintf(file, "%.6f %.6f %ld %d\n", seconds_now() - start, own, used.ru_maxrss, code);
+    fprintf(file, "%.6f %.6f %ld %d %ld\n", seconds_now() - start, own, used.ru_maxrss, code, used.ru_nvcsw);
     return fclose(file);
 }
 
