@@ -20,7 +20,6 @@ pub mod MapHints
 pub mod Message
 pub mod NameRules
 pub mod Nearest
-pub mod Nearness
 pub mod NodeNames
 pub mod NoteHeads
 pub mod Notes

@@ -4,7 +4,7 @@ use Rattle.std.specs.Prelude.{ℕ, ◌&&◌, ◌||◌, not, Bool, List, codes, l
 use Rattle.std.specs.List.{list_all, list_any}
 use Rattle.std.specs.Option.{option_or}
 use Rattle.graph_script.specs.Arguments.{is_name_byte, is_dot, is_within}
-use Rattle.fault_messages.specs.Nearness.{is_near}
+use Rattle.word_hints.specs.Nearness.{is_near}
 use Rattle.fault_messages.specs.Places.{begins}
 
 -- the first command at most k letters away, and that which is meant

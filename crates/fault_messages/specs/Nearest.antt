@@ -6,7 +6,7 @@ use Rattle.std.specs.Option.{option_or}
 use Rattle.graph_script.specs.declared.name.Name.{Name}
 use Rattle.graph_script.specs.declared.name.Name.TheVariants as N
 use Rattle.graph_script.specs.CommandWords.{names, word_of}
-use Rattle.fault_messages.specs.Nearness.{is_near}
+use Rattle.word_hints.specs.Nearness.{is_near}
 
 -- the first of some commands that is at most k letters away, and the first of all
 abbrev pub near_among : ℕ → List Name → List ℕ → Option Name

@@ -26,7 +26,6 @@ mod makers;
 mod map_hints;
 mod name_rules;
 mod nearest;
-mod nearness;
 mod node_names;
 mod note_heads;
 mod notes;

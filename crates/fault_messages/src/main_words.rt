@@ -7,7 +7,7 @@ ghost use Rattle.fault_messages.specs.MainWords.{wanted, has_value, is_option, h
 
 use crate::lines::begins;
 use crate::name_rules::is_name_byte;
-use crate::nearness::is_near;
+use word_hints::is_near;
 
 /// The most bytes of a path that a command is given with.
 const PATH_LIMIT: usize = 200;

@@ -2,8 +2,8 @@
 ghost use Rattle.std.specs.Prelude.{◌≡◌};
 ghost use Rattle.fault_messages.specs.Nearest.{near_among, nearest, second_choice, other_word, meant};
 
-use crate::nearness::is_near;
 use graph_script::{Name, names};
+use word_hints::is_near;
 
 // The first command that is at most `k` letters away.
 fn nearest(k: u32, word: &[u8]) -> Option<Name>

@@ -61,7 +61,7 @@ fn is_two_near(a: &[u8], b: &[u8]) -> bool
 
 /// Whether the words are within one letter of each other, or two neighbours changed places; for
 /// another number, within two.
-pub(crate) fn is_near(k: u32, a: &[u8], b: &[u8]) -> bool
+pub fn is_near(k: u32, a: &[u8], b: &[u8]) -> bool
     ensures { result ≡ is_near k a.now b.now }
 {
     if k == 1 {

@@ -1,5 +1,0 @@
-use Rattle.std.proofs.Common.{length}
-use Rattle.fault_messages.proofs.nearness.+is_swapped.Given as goal
-
-abbrev pub decreases-is_swapped : goal.decreases-is_swapped
-decreases-is_swapped l = length l.a.now

@@ -1,5 +1,0 @@
-use Rattle.std.proofs.Common.{length}
-use Rattle.fault_messages.proofs.nearness.+is_two_near.Given as goal
-
-abbrev pub decreases-is_two_near : goal.decreases-is_two_near
-decreases-is_two_near l = length l.a.now
