@@ -1,7 +1,7 @@
 //! The answer of a claim.
 
 /// What a claim found.
-#[derive(Clone, Copy, Debug, PartialEq, Eq, Drop)]
+#[derive(Clone, Copy, PartialEq, Eq, Drop)]
 pub enum Claim {
     /// The node is awake in this cycle.
     Awake { cycle: u32 },

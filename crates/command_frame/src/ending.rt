@@ -5,7 +5,7 @@ use pw_outside::Sink;
 use std::alloc::Global;
 
 /// What a status is to the frame. A place is a line of a script, or the index of a word.
-#[derive(Clone, Copy, Debug, PartialEq, Eq, Drop)]
+#[derive(Clone, Copy, PartialEq, Eq, Drop)]
 pub enum End {
     /// Everything was done.
     Done,

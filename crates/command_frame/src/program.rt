@@ -10,7 +10,7 @@ use pw_outside::Files;
 use std::alloc::Global;
 
 /// Why words ask for nothing.
-#[derive(Clone, Copy, Debug, PartialEq, Eq, Drop)]
+#[derive(Clone, Copy, Drop)]
 pub enum Misread {
     /// The index of the first word at fault, or their number where more were wanted.
     Word(u32),

@@ -7,7 +7,7 @@ use pw_lists::Memory;
 
 /// Why a POD gives no points: the first control at fault, by its place in the sequence, counted
 /// from 0.
-#[derive(Clone, Copy, Debug, PartialEq, Eq, Drop)]
+#[derive(Clone, Copy, PartialEq, Eq, Drop)]
 pub enum ControlFault {
     /// The value is no Sequence.
     NotSequence,

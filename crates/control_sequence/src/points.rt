@@ -3,7 +3,7 @@
 use pw_lists::Items;
 
 /// From a frame on, a gain.
-#[derive(Clone, Copy, Debug, PartialEq, Eq, Drop)]
+#[derive(Clone, Copy, PartialEq, Eq, Drop)]
 pub struct Point {
     /// The number of the frame, from 0.
     pub offset: u32,
@@ -12,7 +12,7 @@ pub struct Point {
 }
 
 /// Points, whose offsets do not fall.
-#[derive(Debug, Drop)]
+#[derive(Drop)]
 pub struct Points {
     pub items: Items<Point>,
 }

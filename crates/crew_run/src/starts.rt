@@ -13,7 +13,7 @@ pub trait Starts {
 }
 
 /// No start is refused but by the system.
-#[derive(Debug, Drop)]
+#[derive(Drop)]
 pub struct AnyStarts;
 
 impl AnyStarts {

@@ -3,7 +3,7 @@ use pw_graph::{Epoch, PortId};
 use pw_lists::Items;
 
 /// What an output port gave in one cycle.
-#[derive(Debug, Drop)]
+#[derive(Drop)]
 pub(crate) struct Given {
     pub port: PortId,
     pub samples: Items<i16>,
@@ -14,7 +14,7 @@ pub(crate) struct Given {
 /// `a` is the stream of its first input and `b` that of its second, frames interleaved, from where
 /// its streams began; without such an input the list is empty. Contracts of other crates speak of
 /// it: `specs/Progress.antt` has what a node has received after n cycles.
-#[derive(Debug, Drop)]
+#[derive(Drop)]
 pub struct Received {
     pub frames: u64,
     pub a: Items<i16>,

@@ -17,7 +17,7 @@ use pw_lists::{Items, Memory, Text, next_piece};
 use std::alloc::Global;
 
 /// Why the events of a trace cannot be read.
-#[derive(Clone, Copy, Debug, PartialEq, Eq, Drop)]
+#[derive(Clone, Copy, Drop)]
 pub enum TraceFault {
     /// The first line that is no event line, counted from 1.
     Line(u64),

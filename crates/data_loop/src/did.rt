@@ -1,7 +1,7 @@
 //! The answer of a turn.
 
 /// What a turn of a loop did.
-#[derive(Clone, Copy, Debug, PartialEq, Eq, Drop)]
+#[derive(Clone, Copy, Drop)]
 pub enum Did {
     /// This node had its turn.
     Ran { node: u32 },

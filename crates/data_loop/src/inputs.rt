@@ -12,7 +12,7 @@ use s16_mixer::mix_into;
 
 /// A link that a node reads, by its number in the shape, and whether it leads to the node's second
 /// input.
-#[derive(Clone, Copy, Debug, Drop)]
+#[derive(Clone, Copy, Drop)]
 pub(crate) struct Input {
     pub link: u32,
     pub second: bool,

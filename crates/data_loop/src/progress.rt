@@ -2,7 +2,7 @@
 
 /// No follower has ended fewer cycles than `least`, and those before the index `from` have ended
 /// more.
-#[derive(Clone, Copy, Debug, PartialEq, Eq, Drop)]
+#[derive(Clone, Copy, Drop)]
 pub(crate) struct Progress {
     pub least: u32,
     pub from: usize,

@@ -1,7 +1,7 @@
 //! The answer of one try.
 
 /// What one try of a member did.
-#[derive(Clone, Copy, Debug, PartialEq, Eq, Drop)]
+#[derive(Clone, Copy, PartialEq, Eq, Drop)]
 pub enum Tried {
     /// Nothing: the node has ended all cycles of the epoch.
     Ended,

@@ -6,7 +6,7 @@ ghost use Rattle.dump_reading.specs.declared.fault.DumpFault.TheVariants as f;
 use pw_lists::Memory;
 
 /// What is wrong with a line, in the order in which it is looked for.
-#[derive(Clone, Copy, Debug, PartialEq, Eq, Drop)]
+#[derive(Clone, Copy, PartialEq, Eq, Drop)]
 pub enum DumpWhy {
     /// A value would be more than 16 deep.
     Deep,
@@ -25,7 +25,7 @@ pub enum DumpWhy {
 }
 
 /// Why a text is no dump.
-#[derive(Clone, Copy, Debug, PartialEq, Eq, Drop)]
+#[derive(Clone, Copy, Drop)]
 pub enum DumpFault {
     /// The line at fault, counted from 1.
     Line { number: u64, why: DumpWhy },
@@ -43,7 +43,7 @@ impl From<Memory> for DumpFault {
 
 /// Why no value was read: at a line, from which on `left` bytes of the text are left, or because
 /// memory ran out.
-#[derive(Clone, Copy, Debug, PartialEq, Eq, Drop)]
+#[derive(Clone, Copy, Drop)]
 pub(crate) enum Stop {
     Line { left: usize, why: DumpWhy },
     Memory,

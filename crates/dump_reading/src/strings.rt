@@ -10,7 +10,7 @@ use std::alloc::Global;
 
 /// Where a string is: outside of an escape, after its backslash, after its `x`, or after its
 /// first digit.
-#[derive(Clone, Copy, Debug, PartialEq, Eq, Drop)]
+#[derive(Clone, Copy, Drop)]
 pub(crate) enum Escape {
     Outside,
     Slash,

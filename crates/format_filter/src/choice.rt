@@ -33,7 +33,7 @@ pub enum Choice {
 }
 
 /// The type of a choice's numbers: Int is 32 bits wide, Long 64.
-#[derive(Clone, Copy, Debug, PartialEq, Eq, Drop)]
+#[derive(Clone, Copy, Drop)]
 pub enum Wide {
     Int,
     Long,

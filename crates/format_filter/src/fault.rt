@@ -6,7 +6,7 @@ ghost use Rattle.format_filter.specs.declared.fault.FormatFault.TheVariants as f
 use pw_lists::Memory;
 
 /// The first fault of a POD that is no format, or that memory ran out.
-#[derive(Clone, Copy, Debug, PartialEq, Eq, Drop)]
+#[derive(Clone, Copy, Debug, Drop)]
 pub enum FormatFault {
     /// It is no Object.
     NotObject,

@@ -36,7 +36,7 @@ pub struct Graph {
 }
 
 /// What became of a line.
-#[derive(Clone, Copy, Debug, PartialEq, Eq, Drop)]
+#[derive(Clone, Copy, Drop)]
 pub enum Stepped {
     Done,
     /// It passed a limit.

@@ -10,7 +10,7 @@ use pw_graph::{Epoch, Kind, PortForm, ShapeLink, is_sink};
 use pw_lists::{BLOCK_BYTES_LIMIT, EVENTS_LIMIT, SINK_SAMPLES_LIMIT, Which};
 
 /// What the epochs so far add up to.
-#[derive(Clone, Copy, Debug, Drop)]
+#[derive(Clone, Copy, Drop)]
 pub struct Sums {
     /// Events: in each cycle two of each active node and three more.
     pub events: u64,

@@ -3,7 +3,7 @@
 use pw_graph::PortId;
 
 /// A link that is there, and how many buffers it has.
-#[derive(Clone, Copy, Debug, Drop)]
+#[derive(Clone, Copy, Drop)]
 pub struct Wire {
     pub from: PortId,
     pub to: PortId,

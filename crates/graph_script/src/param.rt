@@ -3,7 +3,7 @@ ghost use Rattle.std.specs.Prelude.{◌≡◌};
 ghost use Rattle.graph_script.specs.Table.{label_word};
 
 /// What a parameter is called.
-#[derive(Clone, Copy, Debug, PartialEq, Eq, Drop)]
+#[derive(Clone, Copy, Drop)]
 pub enum Label {
     Name,
     File,
@@ -25,7 +25,7 @@ pub enum Label {
 }
 
 /// What a number counts, where its label does not say it.
-#[derive(Clone, Copy, Debug, PartialEq, Eq, Drop)]
+#[derive(Clone, Copy, PartialEq, Eq, Drop)]
 pub enum Counted {
     Unsaid,
     Frames,
@@ -33,7 +33,7 @@ pub enum Counted {
 }
 
 /// How the word of a parameter is read.
-#[derive(Clone, Copy, Debug, PartialEq, Eq, Drop)]
+#[derive(Clone, Copy, PartialEq, Eq, Drop)]
 pub enum Form {
     /// The name of a new node.
     New,
@@ -62,7 +62,7 @@ pub enum Form {
 }
 
 /// A parameter of a command: one word.
-#[derive(Clone, Copy, Debug, PartialEq, Eq, Drop)]
+#[derive(Clone, Copy, Drop)]
 pub struct Param {
     pub label: Label,
     pub form: Form,

@@ -18,7 +18,7 @@ use crate::writing::{fill, load_for_write, reclaim};
 use board_rule::{Board, LoopSeat};
 
 /// What a turn found and used.
-#[derive(Clone, Copy, Debug, PartialEq, Eq, Drop)]
+#[derive(Clone, Copy, Drop)]
 pub struct OutputWritten {
     /// The number that the reader of the last link gave back. None exactly in the first cycle.
     pub given: Option<u32>,

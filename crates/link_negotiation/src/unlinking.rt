@@ -9,7 +9,7 @@ use port_model::Ports;
 use pw_graph::PortId;
 
 /// What became of a link that is to go.
-#[derive(Clone, Copy, Debug, PartialEq, Eq, Drop)]
+#[derive(Clone, Copy, Drop)]
 pub enum Unlinked {
     /// It is gone; the bits are those of its nodes that gave their formats up.
     Gone { gave_up: u64 },

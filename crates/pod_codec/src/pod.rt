@@ -75,7 +75,7 @@ pub struct Control {
 }
 
 /// What the values of a choice are, after the first, which is the default.
-#[derive(Clone, Copy, Debug, PartialEq, Eq, Drop)]
+#[derive(Clone, Copy, Drop)]
 pub enum ChoiceKind {
     /// Nothing: the first is the value.
     None,

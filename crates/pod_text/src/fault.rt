@@ -18,7 +18,7 @@ pub enum ListWhy {
 }
 
 /// Why bytes are no list of gains.
-#[derive(Clone, Copy, Debug, PartialEq, Eq, Drop)]
+#[derive(Clone, Copy, Debug, Drop)]
 pub enum ListFault {
     /// The first line at fault, counted from 1.
     Line { number: u64, why: ListWhy },

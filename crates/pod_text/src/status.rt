@@ -9,7 +9,7 @@ use pw_outside::Sink;
 use std::alloc::Global;
 
 /// How a call ended. A place is a word of the command line, counted from 0.
-#[derive(Clone, Copy, Debug, PartialEq, Eq, Drop)]
+#[derive(Clone, Copy, PartialEq, Eq, Drop)]
 pub enum Status {
     /// All was done.
     Ok,

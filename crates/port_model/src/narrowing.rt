@@ -12,7 +12,7 @@ use pw_graph::PortId;
 use pw_lists::{Items, Memory};
 
 /// What a file does to a port's offer.
-#[derive(Clone, Copy, Debug, PartialEq, Eq, Drop)]
+#[derive(Clone, Copy, PartialEq, Eq, Drop)]
 pub enum Narrowed {
     /// It is the common format of both now.
     Done,

@@ -4,14 +4,14 @@ use crate::plan::{LinkLine, Plan};
 use pw_lists::Items;
 
 /// Nodes that links join, and the plan of the script's lines on them.
-#[derive(Debug, Drop)]
+#[derive(Drop)]
 pub struct Part {
     pub nodes: Items<u32>,
     pub plan: Plan,
 }
 
 /// All parts, and what each `link` and `unlink` line did in its part.
-#[derive(Debug, Drop)]
+#[derive(Drop)]
 pub struct Parts {
     pub parts: Items<Part>,
     pub lines: Items<LinkLine>,

@@ -20,7 +20,7 @@ pub struct PlanNode {
 }
 
 /// The form of a port of an active node.
-#[derive(Clone, Copy, Debug, PartialEq, Eq, Drop)]
+#[derive(Clone, Copy, Debug, Drop)]
 pub struct PortForm {
     pub port: PortId,
     pub rate: u32,
@@ -29,7 +29,7 @@ pub struct PortForm {
 
 /// A node that begins anew with an epoch: it gave up its formats, or the channels of its first
 /// input changed.
-#[derive(Clone, Copy, Debug, PartialEq, Eq, Drop)]
+#[derive(Clone, Copy, Debug, Drop)]
 pub struct Fresh {
     pub node: u32,
     /// The channels of its first input in this epoch, or 0.

@@ -7,7 +7,7 @@ use pw_lists::{Items, Memory};
 use std::alloc::Global;
 
 /// A pool. A block of it holds one quantum of `channels` channels in `words` words of four samples.
-#[derive(Debug, Drop)]
+#[derive(Drop)]
 pub struct PoolShape {
     pub port: PortId,
     pub channels: u32,

@@ -13,7 +13,7 @@ pub struct ShapeNode {
 }
 
 /// A live link. `delayed` says that it is late: it carries what was made one cycle earlier.
-#[derive(Clone, Copy, Debug, PartialEq, Eq, Drop)]
+#[derive(Clone, Copy, Debug, Drop)]
 pub struct ShapeLink {
     pub from: PortId,
     pub to: PortId,

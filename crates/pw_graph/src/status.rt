@@ -2,7 +2,7 @@
 ghost use Rattle.std.specs.Prelude.{◌≡◌, ℕ, ◌<◌, ◌≢◌, MatchOption};
 
 /// The status of a node in a cycle.
-#[derive(Clone, Copy, Debug, PartialEq, Eq, Drop)]
+#[derive(Clone, Copy, PartialEq, Eq, Drop)]
 pub enum ActivationStatus {
     /// It waits for its dependencies.
     NotTriggered,
@@ -43,7 +43,7 @@ impl ActivationStatus {
 }
 
 /// Whose turn an io area says it is: the two values of `spa_io_buffers` that are stored.
-#[derive(Clone, Copy, Debug, PartialEq, Eq, Drop)]
+#[derive(Clone, Copy, PartialEq, Eq, Drop)]
 pub enum AreaStatus {
     /// `SPA_STATUS_NEED_DATA`
     NeedData,

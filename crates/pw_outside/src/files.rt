@@ -7,7 +7,7 @@ use pw_lists::{Items, Text};
 use std::alloc::Global;
 
 /// What a load found.
-#[derive(Debug, Drop)]
+#[derive(Drop)]
 pub enum Loaded {
     Whole(Items<u8>),
     Absent,

@@ -7,7 +7,7 @@ pub trait Gate {
 }
 
 /// A gate that lets each node through at once.
-#[derive(Debug, Drop)]
+#[derive(Drop)]
 pub struct Open;
 
 impl Open {

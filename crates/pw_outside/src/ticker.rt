@@ -17,7 +17,7 @@ pub trait Ticker {
 }
 
 /// A ticker that is never due.
-#[derive(Debug, Drop)]
+#[derive(Drop)]
 pub struct Never;
 
 impl Never {

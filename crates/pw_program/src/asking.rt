@@ -5,7 +5,7 @@ use pw_outside::{Every, Ticker};
 use std::marker::{Brand, PhantomData};
 
 /// The ticker of a run, as the run left it.
-#[derive(Debug, Drop)]
+#[derive(Drop)]
 pub enum Asked {
     /// The words ask for none.
     Never,

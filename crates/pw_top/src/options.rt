@@ -13,7 +13,7 @@ const LOOPS_LIMIT: u32 = 16;
 const TICKS_LIMIT: u32 = 1_000_000;
 
 /// What options say; None where one is not there.
-#[derive(Clone, Copy, Debug, PartialEq, Eq, Drop)]
+#[derive(Clone, Copy, Drop)]
 pub struct Options {
     pub loops: Option<u32>,
     pub ticks: Option<u32>,

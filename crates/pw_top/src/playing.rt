@@ -24,7 +24,7 @@ use wav_files::Outcome;
 
 /// Who runs a plan beside the driver's thread: `loops` loops, each with the nodes that name it, or
 /// with `steal` loops that each run any node.
-#[derive(Clone, Copy, Debug, PartialEq, Eq, Drop)]
+#[derive(Clone, Copy, Drop)]
 pub struct Crew {
     pub loops: u32,
     pub steal: bool,

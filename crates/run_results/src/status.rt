@@ -7,7 +7,7 @@ use wav_files::WavFault;
 
 /// Why a POD is refused, or what it says does not fit. Offsets count bytes of the file; a key is a
 /// property's, an index counts controls from 0.
-#[derive(Clone, Copy, Debug, PartialEq, Eq, Drop)]
+#[derive(Clone, Copy, PartialEq, Eq, Drop)]
 pub enum PodWhy {
     Short { offset: u32 },
     TypeUnknown { offset: u32, number: u32 },
@@ -35,7 +35,7 @@ pub enum PodWhy {
 }
 
 /// How a call ended. A place is a line of the script, or the index of a word.
-#[derive(Clone, Copy, Debug, PartialEq, Eq, Drop)]
+#[derive(Clone, Copy, PartialEq, Eq, Drop)]
 pub enum Status {
     /// Everything was done.
     Ok,

@@ -15,7 +15,7 @@ pub(crate) enum Hint {
 }
 
 /// How many steps were found by each kind of hint; 2^64 - 1 where they are more.
-#[derive(Clone, Copy, Debug, PartialEq, Eq, Drop)]
+#[derive(Clone, Copy, PartialEq, Eq, Drop)]
 pub struct HintCounts {
     /// The thread kept the node, which its last step woke.
     pub kept: u64,
@@ -28,7 +28,7 @@ pub struct HintCounts {
 }
 
 /// What all threads of a run counted together.
-#[derive(Clone, Copy, Debug, PartialEq, Eq, Drop)]
+#[derive(Clone, Copy, Drop)]
 pub struct RunCounts {
     /// How many numbers the workers took out of their queues; 2^64 - 1 where they are more.
     pub taken: u64,

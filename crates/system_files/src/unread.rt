@@ -6,7 +6,7 @@ use pw_lists::{Items, Memory, Text, append_decimal};
 use std::alloc::Global;
 
 /// Why words could not be read.
-#[derive(Clone, Copy, Debug, PartialEq, Eq, Drop)]
+#[derive(Clone, Copy, PartialEq, Eq, Drop)]
 pub enum Unread {
     /// This word is the first that is no text in UTF-8; the program's own name is word 0.
     NoText { word: u32 },

@@ -14,7 +14,7 @@ use crate::so_far::SoFar;
 use pw_graph::Event;
 
 /// What is wrong with an event, or with its absence.
-#[derive(Clone, Copy, Debug, PartialEq, Eq, Drop)]
+#[derive(Clone, Copy, PartialEq, Eq, Drop)]
 pub enum Cause {
     /// All cycles have ended.
     AllEnded,

@@ -14,7 +14,7 @@ use pw_lists::{Items, Memory};
 use std::alloc::Global;
 
 /// What events are to a plan.
-#[derive(Clone, Copy, Debug, PartialEq, Eq, Drop)]
+#[derive(Clone, Copy, PartialEq, Eq, Drop)]
 pub enum Verdict {
     /// A legal history of its epochs.
     Legal,

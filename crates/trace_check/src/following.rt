@@ -16,7 +16,7 @@ use pw_lists::Memory;
 use std::alloc::Global;
 
 /// A prefix of a row of events.
-#[derive(Clone, Copy, Debug, Drop)]
+#[derive(Clone, Copy, Drop)]
 pub(crate) enum Progress {
     /// The first n events are all that was looked for.
     Whole(usize),

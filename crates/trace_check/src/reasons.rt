@@ -14,7 +14,7 @@ use pw_lists::{Items, Memory};
 use std::alloc::Global;
 
 /// Why events are no legal history.
-#[derive(Clone, Copy, Debug, PartialEq, Eq, Drop)]
+#[derive(Clone, Copy, PartialEq, Eq, Drop)]
 pub struct Reason {
     /// The number of the first illegal event, from 1, or one past the last event.
     pub at: u32,

@@ -6,7 +6,7 @@ use crate::node_sets::with;
 use pw_graph::Event;
 
 /// Which nodes have started and finished, and whether there was a Tick.
-#[derive(Clone, Copy, Debug, Drop)]
+#[derive(Clone, Copy, Drop)]
 pub(crate) struct SoFar {
     pub(crate) started: u64,
     pub(crate) finished: u64,

@@ -16,7 +16,7 @@ use pw_lists::{Items, Memory, Text};
 use std::alloc::Global;
 
 /// What is found of a trace.
-#[derive(Clone, Copy, Debug, PartialEq, Eq, Drop)]
+#[derive(Clone, Copy, PartialEq, Eq, Drop)]
 pub enum Finding {
     /// The first line that is no event line, counted from 1.
     Line(u64),

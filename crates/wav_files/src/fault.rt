@@ -3,7 +3,7 @@ ghost use Rattle.std.specs.Prelude.{◌≡◌};
 ghost use Rattle.wav_files.specs.WavFaults.{wav_fault_number};
 
 /// Why a file cannot be read, or that there was no memory for it.
-#[derive(Clone, Copy, Debug, PartialEq, Eq, Drop)]
+#[derive(Clone, Copy, PartialEq, Eq, Drop)]
 pub enum WavFault {
     NotRiff,
     NoFmt,

@@ -5,14 +5,14 @@ use pw_graph::Event;
 use pw_lists::Items;
 
 /// What a sink has kept.
-#[derive(Debug, Drop)]
+#[derive(Drop)]
 pub struct Kept {
     pub node: u32,
     pub wav: Wav,
 }
 
 /// The greatest absolute value that a meter has received.
-#[derive(Clone, Copy, Debug, PartialEq, Eq, Drop)]
+#[derive(Clone, Copy, PartialEq, Eq, Drop)]
 pub struct Peak {
     pub node: u32,
     pub value: u32,
@@ -20,7 +20,7 @@ pub struct Peak {
 
 /// What a run answers: each sink and each meter that has a format at the script's end, ascending by
 /// node.
-#[derive(Debug, Drop)]
+#[derive(Drop)]
 pub struct Outcome {
     pub history: Items<Event>,
     pub sinks: Items<Kept>,

@@ -4,7 +4,7 @@ use pw_lists::Items;
 
 /// A wave of `rate` frames a second, each of `channels` samples, one for each channel in turn.
 /// The number of samples is a multiple of `channels`.
-#[derive(Debug, Drop)]
+#[derive(Drop)]
 pub struct Wav {
     /// 1 to 384000.
     pub rate: u32,
@@ -14,7 +14,7 @@ pub struct Wav {
 }
 
 /// The wave of a source node.
-#[derive(Debug, Drop)]
+#[derive(Drop)]
 pub struct WavIn {
     pub node: u32,
     pub wav: Wav,

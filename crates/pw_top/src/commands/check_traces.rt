@@ -68,7 +68,7 @@ impl CheckTrace {
 
 /// What is seen of a trace: its first line that is of no event, or why its events are no legal
 /// history, if they are none, and the event at that place.
-#[derive(Clone, Copy, Debug, Drop)]
+#[derive(Clone, Copy, Drop)]
 pub(crate) enum Seen {
     Line(u64),
     Events(Option<Reason>, Option<Event>),
