@@ -1,4 +1,4 @@
-/* The twin of bench_main's `automate`: a stereo row through 10,000 points, from point to point. */
+/* The twin of `automate` of bench/timed: a stereo row through 10,000 points, from point to point. */
 #include <stdint.h>
 #include <stdio.h>
 #include <stdlib.h>

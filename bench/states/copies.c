@@ -1,5 +1,5 @@
 // The least that a source, a delay and a sink do, in C: copies, and a ring. WORK QUANTUM RUNS, where the work is
-// `bare_source`, `bare_delay` or `bare_sink` and a run is 256 quanta. Prints the checksum that bench_states prints.
+// `bare_source`, `bare_delay` or `bare_sink` and a run is 256 quanta. Prints the checksum that the program of bench/timed prints.
 #include <stdint.h>
 #include <stdio.h>
 #include <stdlib.h>
