@@ -1,0 +1,1 @@
+"""Pictures of a script, of a trace of its run, and of a WAV file: what `pipegraph-pictures` puts."""

@@ -1,0 +1,168 @@
+"""The program: from the words of the command line to a picture on standard output, or to why there is none.
+
+Source: docs/pipegraph-pictures.1; statuses as docs/FORMATS.md has them.
+"""
+from __future__ import annotations
+
+import os
+import sys
+from typing import List, Tuple
+
+from . import graph, perfetto, request, run_text, script, timeline, wav, wave
+from .files import SCRIPT_LIMIT, load
+from .look import said
+from .shown import escaped, shown
+from .status import PROGRAM, SECOND_PLACE, Ended, memory
+
+NOTES_PLACE, WAVE_PLACE = 3, 1
+
+
+def title_of(file: bytes) -> str:
+    return said(os.path.basename(file) or file)
+
+
+def fault_said(file: bytes, fault: script.Fault) -> bytes:
+    """The sentence on a line at fault, with the line but for one with a byte that no script may have."""
+    line = fault.text.split(b"\r")[0]
+    quoted = shown(line) + b": " if line and fault.why != script.BYTE else b""
+    return b"%s:%d: %s%s" % (shown(file), fault.line, quoted, fault.cause())
+
+
+def load_script(file: bytes, partial: bool = False) -> script.Script:
+    read = script.read(load(file, 0, SCRIPT_LIMIT))
+    if read.fault is not None and not partial:
+        raise Ended(2, read.fault.printed(), fault_said(file, read.fault))
+    return read
+
+
+def load_run(file: bytes, of: script.Script, name: bytes) -> bytes:
+    text = load(file, SECOND_PLACE)
+    run_text.Reader(of).check(text, file, name)
+    return text
+
+
+def draw_graph(asked: request.Graph) -> bytes:
+    read = load_script(asked.script, asked.partial)
+    made: List[run_text.Made] = []
+    if asked.run is not None:
+        text = load_run(asked.run, read, asked.script)
+        notes = load(asked.notes, NOTES_PLACE) if asked.notes is not None else b""
+        made = run_text.made_of(text, notes, read, asked.script)
+    title = title_of(asked.script)
+    if read.fault is None:
+        return graph.draw(read, made, title)
+    sentence = fault_said(asked.script, read.fault)
+    sys.stderr.buffer.write(PROGRAM + sentence + b"\n")
+    return graph.draw(read, made, title, sentence.decode())
+
+
+def no_cycle(asked: request.Timeline, total: int) -> Ended:
+    """No event of the trace is of a cycle of the range."""
+    first = asked.cycles[0] if asked.cycles else 0
+    return Ended(1, b"usage 3\n", b"%s: it has no event of cycle %d" % (shown(asked.trace), first))
+
+
+def events_shown(asked: request.Timeline, text: bytes) -> Tuple[timeline.Shown, List[run_text.Event]]:
+    """The events that are drawn, and all of the range."""
+    most = sys.maxsize if asked.perfetto else timeline.MOST
+    total, before, found = run_text.events_of(text, asked.cycles, most)
+    if asked.cycles and not found:
+        raise no_cycle(asked, total)
+    in_range = len(found)
+    if in_range == most:
+        in_range = run_text.count_of(text, asked.cycles)
+    return timeline.Shown(found[: timeline.MOST], before, total, in_range, asked.illegal), found
+
+
+def draw_timeline(asked: request.Timeline) -> bytes:
+    read = load_script(asked.script)
+    text = load_run(asked.trace, read, asked.script)
+    shown_events, found = events_shown(asked, text)
+    title = f"{title_of(asked.trace)}, a run of {title_of(asked.script)}"
+    if asked.perfetto is not None:
+        store(asked.perfetto, perfetto.written(read, found, title_of(asked.script)))
+    return timeline.Drawing(read, shown_events).draw(title)
+
+
+def store(file: bytes, text: bytes) -> None:
+    try:
+        with open(file, "wb") as out:
+            out.write(text)
+    except OSError as error:
+        raise Ended(7, b"write 0\n", shown(file) + b" could not be written") from error
+
+
+def draw_wave(asked: request.Wave) -> bytes:
+    held = load(asked.file, WAVE_PLACE)
+    try:
+        samples = wav.read(held)
+    except wav.Fault as fault:
+        raise Ended(3, b"wav %d %d\n" % (WAVE_PLACE, fault.number),
+                    shown(asked.file) + b": " + wav.SENTENCES[fault.number]) from fault
+    del held
+    return wave.draw(samples, title_of(asked.file), asked.decibels)
+
+
+def picture(asked) -> bytes:
+    if isinstance(asked, request.Graph):
+        return draw_graph(asked)
+    return draw_timeline(asked) if isinstance(asked, request.Timeline) else draw_wave(asked)
+
+
+def put(text: bytes) -> bool:
+    """Puts a text on standard output; whether all of it was."""
+    try:
+        sys.stdout.buffer.write(text)
+        sys.stdout.buffer.flush()
+    except (OSError, ValueError, AttributeError):
+        return False
+    return True
+
+
+def tell(text: bytes) -> None:
+    """Says something on standard error, where that can be."""
+    try:
+        sys.stderr.buffer.write(text)
+        sys.stderr.buffer.flush()
+    except (OSError, ValueError, AttributeError):
+        pass
+
+
+def answer(words: List[bytes]) -> Tuple[int, bytes]:
+    """The status of a call and what it puts on standard output; what it says is said."""
+    try:
+        asked = request.read(words)
+        if isinstance(asked, request.Help):
+            return 0, asked.text
+        text = picture(asked)
+        is_partial = isinstance(asked, request.Graph) and asked.partial and b"<FONT COLOR=\"#c00000\">" in text
+        return (2 if is_partial else 0), text
+    except MemoryError:
+        ended = memory()
+    except Ended as it:
+        ended = it
+    tell(ended.sentence + ended.more)
+    return ended.status, ended.line
+
+
+def closed_quietly() -> None:
+    """Keeps the end of the program from writing to an output that failed."""
+    for stream in (sys.stdout, sys.stderr):
+        try:
+            os.dup2(os.open(os.devnull, os.O_WRONLY), stream.fileno())
+        except (OSError, ValueError, AttributeError):
+            pass
+
+
+def main(argv: List[str]) -> int:
+    words = [os.fsencode(word) for word in argv[1:]]
+    for index, word in enumerate(words, 1):
+        if not request.is_text(word):
+            tell(PROGRAM + b"word %d is not text in UTF-8\n" % index)
+            return 1
+    status, text = answer(words)
+    if put(text):
+        return status
+    tell(PROGRAM + b"the picture could not be written\n")
+    closed_quietly()
+    return 7
