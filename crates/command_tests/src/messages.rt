@@ -245,6 +245,14 @@ const SCRIPTS: &'static [(ScriptWhy, &'static [u8], &'static [u8])] = &[
 const NO_LINE: &'static [(ScriptWhy, &'static [u8])] = &[
     (ScriptWhy::Command, b"the first word is no command"),
     (ScriptWhy::Arguments, b"too few words, or too many"),
+    (
+        ScriptWhy::Number,
+        b"a number is out of range, or has the wrong form",
+    ),
+    (
+        ScriptWhy::NameForm,
+        b"a name, a port or a file word has the wrong form",
+    ),
     (ScriptWhy::NameTaken, b"the name is taken"),
     (
         ScriptWhy::NameUnknown,
