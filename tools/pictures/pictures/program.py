@@ -56,22 +56,19 @@ def draw_graph(asked: request.Graph) -> bytes:
     return graph.draw(read, made, title, sentence.decode())
 
 
-def no_cycle(asked: request.Timeline, total: int) -> Ended:
+def no_cycle(asked: request.Timeline) -> Ended:
     """No event of the trace is of a cycle of the range."""
     first = asked.cycles[0] if asked.cycles else 0
     return Ended(1, b"usage 3\n", b"%s: it has no event of cycle %d" % (shown(asked.trace), first))
 
 
 def events_shown(asked: request.Timeline, text: bytes) -> Tuple[timeline.Shown, List[run_text.Event]]:
-    """The events that are drawn, and all of the range."""
+    """The events that are drawn, and all of the range where a file of them is asked for."""
     most = sys.maxsize if asked.perfetto else timeline.MOST
-    total, before, found = run_text.events_of(text, asked.cycles, most)
+    before, count, found = run_text.events_of(text, asked.cycles, most)
     if asked.cycles and not found:
-        raise no_cycle(asked, total)
-    in_range = len(found)
-    if in_range == most:
-        in_range = run_text.count_of(text, asked.cycles)
-    return timeline.Shown(found[: timeline.MOST], before, total, in_range, asked.illegal), found
+        raise no_cycle(asked)
+    return timeline.Shown(found[: timeline.MOST], before, count, asked.illegal), found
 
 
 def draw_timeline(asked: request.Timeline) -> bytes:

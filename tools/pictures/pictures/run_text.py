@@ -128,20 +128,33 @@ def event_of(line: bytes) -> Event:
 
 
 EVENT_LINE = re.compile(rb"^(?:begin|end|start|finish|tick) ([0-9]+)[^\n]*$", re.M)
+OTHER_LINE = re.compile(rb"^(?:no|un|noun)?link |^(?:wrote|peak|unused) ", re.M)
+# A range of at most so many cycles is looked for by its numbers.
+FEW_CYCLES = 200
+
+
+def in_cycles(text: bytes, cycles: Optional[Tuple[int, int]]) -> Iterator["re.Match[bytes]"]:
+    """The lines of events of a range of cycles, or of all."""
+    if cycles is None:
+        return EVENT_LINE.finditer(text)
+    low, high = cycles
+    if high - low < FEW_CYCLES:
+        numbers = b"|".join(b"%d" % number for number in range(low, high + 1))
+        return re.finditer(rb"^[a-z]+ (?:%s)(?: [^\n]*)?$" % numbers, text, re.M)
+    return (match for match in EVENT_LINE.finditer(text) if low <= int(match[1]) <= high)
 
 
 def events_of(text: bytes, cycles: Optional[Tuple[int, int]], most: int) -> Tuple[int, int, List[Event]]:
-    """How many events a text has and how many come before the first of a range, and the first of these."""
-    total, before, found = 0, -1, []
-    low, high = cycles if cycles else (0, GREATEST)
-    for match in EVENT_LINE.finditer(text):
-        if low <= int(match[1]) <= high:
-            if before < 0:
-                before = total
-            if len(found) < most:
-                found.append(event_of(match[0]))
-        total += 1
-    return total, max(before, 0), found
+    """How many events come before the first of a range, how many it has, and the first of these."""
+    found, before, count = [], 0, 0
+    for match in in_cycles(text, cycles):
+        if not found:
+            place = match.start()
+            before = text.count(b"\n", 0, place) - len(OTHER_LINE.findall(text, 0, place))
+        if len(found) < most:
+            found.append(event_of(match[0]))
+        count += 1
+    return before, count, found
 
 
 def causes(key: bytes) -> bytes:
@@ -178,9 +191,3 @@ def made_of(text: bytes, notes: bytes, script: Script, file: bytes) -> List[Made
         elif len(words) == 6 and words[3].isdigit() and words[4].isdigit():
             found.append(Made(link.line, int(words[3]), int(words[4])))
     return found
-
-
-def count_of(text: bytes, cycles: Optional[Tuple[int, int]]) -> int:
-    """How many events of a text are of a range of cycles."""
-    low, high = cycles if cycles else (0, GREATEST)
-    return sum(low <= int(match[1]) <= high for match in EVENT_LINE.finditer(text))

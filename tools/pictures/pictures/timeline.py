@@ -19,11 +19,10 @@ BEGIN, END, START, FINISH, TICK = b"begin", b"end", b"start", b"finish", b"tick"
 
 @dataclass(frozen=True)
 class Shown:
-    """The events that are drawn: which of the trace is the first, how many it has, and the verdict's event."""
+    """The events that are drawn: how many of the trace come before, how many the range has, the verdict's event."""
 
     events: List[Event]
     before: int
-    total: int
     in_range: int
     illegal: int
 
