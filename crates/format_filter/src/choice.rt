@@ -33,7 +33,7 @@ pub enum Choice {
 }
 
 /// The type of a choice's numbers: Int is 32 bits wide, Long 64.
-#[derive(Clone, Copy, Drop)]
+#[derive(Clone, Copy, PartialEq, Eq, Drop)]
 pub enum Wide {
     Int,
     Long,
