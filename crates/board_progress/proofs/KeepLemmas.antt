@@ -1,6 +1,6 @@
--- After an advance the rule holds: each is a kind of step that keeps it.
+-- After an advance, and after a step in vain, the rule holds: each is a kind of step that keeps it.
 use Rattle.std.proofs.Common.{◌≡◌, ℕ, ◌+◌, ◌-◌, ◌%◌, ◌^◌, ◌<◌, ⊎_elim, cond, [], length, get_or, refl, sym, ap, ◌∙◌}
-use Rattle.std.proofs.Common.{subst, arith, eq-eqb, Option}
+use Rattle.std.proofs.Common.{subst, arith, eq-eqb, ne_eqb, Option}
 use mathlib.Core.Option.{some}
 use lib.ListN.{get_elem?}
 use prog.Atomic.{either}
@@ -12,12 +12,13 @@ use Rattle.board_rule.specs.Layout.{BoardLayout, first}
 use Rattle.board_rule.specs.BoardRule.{Holds}
 use Rattle.board_rule.specs.Steps.{reset_of, pending_stored, status_stored, lowered, triggered, claimed, woken, tried, finished, cycle_of}
 use Rattle.board_rule.specs.events.EventSteps.{draws, event_stored, looked, late_stored}
-use Rattle.board_rule.specs.buffers.EndViews.{pool_of}
+use Rattle.board_rule.specs.buffers.EndViews.{pool_of, reader_of}
 use Rattle.board_rule.specs.buffers.WriterSteps.{write_area, loaded_as_writer, have_stored}
 use Rattle.board_rule.specs.buffers.BlockSteps.{sample_stored, readers_stored}
 use Rattle.board_rule.specs.buffers.ReclaimSteps.{readers_loaded}
 use Rattle.board_rule.specs.buffers.ReaderSteps.{words_read_of, read_area, loaded_as_reader, sample_loaded, readers_lowered, need_stored}
 use Rattle.board_rule.proofs.StepLemmas as steps
+use Rattle.board_rule.proofs.buffers.HolderLemmas.{now_running}
 use Rattle.board_rule.proofs.buffers.WriterStepLemmas.{load_writer_allowed, store_have_allowed, load_readers_allowed, store_sample_allowed, store_readers_allowed}
 use Rattle.board_rule.proofs.buffers.ReaderStepLemmas.{load_reader_allowed, store_need_allowed, load_sample_allowed, lower_readers_allowed}
 use Rattle.board_progress.specs.Moves.{Move, moved}
@@ -28,6 +29,8 @@ use Rattle.board_progress.specs.BufferAdvances.{BufferAdvances}
 use Rattle.board_progress.specs.BufferAdvances.BufferAdvances.{loads_as_writer, loads_readers, stores_sample, stores_readers, stores_have}
 use Rattle.board_progress.specs.BufferAdvances.BufferAdvances.{loads_as_reader, loads_sample, lowers_readers, stores_need}
 use Rattle.board_progress.specs.Progress.{Advances}
+use Rattle.board_progress.specs.VainSteps.{VainSteps}
+use Rattle.board_progress.specs.VainSteps.VainSteps.{claims_early, loads_again}
 
 less_by : (n w : ℕ) → 0 < n → n < 18446744073709551616 → (n + (2 ^ 64 - 1)) % 2 ^ 64 ≡ n - 1
 less_by n w more fits = omega arith
@@ -123,3 +126,17 @@ module _ (p : BoardLayout) where
 
     pub advance_keeps : (x : Move) → Advances p s.words v x → Holds p (moved s id x)
     advance_keeps x a = ⊎_elim (node_keeps x) (buffer_keeps x) a
+
+    pub vain_keeps : (x : Move) (back : ℕ) → VainSteps p s.words v x back → Holds p (moved s id x)
+    vain_keeps x back (claims_early b m found may is late none e) = let i : ℕ = status_place p.shape m in let c : ℕ = cycle_of b v m in
+        let r = steps.claims p (length s.homes) id (v, []) (λ n. claimed b p v m n) b m may (λ _. refl) s h refl at (fit i) in
+        let no = ne_eqb (get_or s.words i 0) (triggered_word c) (λ z. late (is ∙ z)) in
+        subst Kept (sym e) (settle s id i _ _ r.0 _ r.1 r.3
+        (r.4.0 ∙ ap (λ k. cond k (woken b v m) (tried p v m (get_or s.words i 0))) no ∙ ap (tried p v m) (sym is))
+        (ap (λ k. either k (awake_word c) (get_or s.words i 0)) no ∙ sym is))
+    vain_keeps x back (loads_again b l num i found may again is more e) = let place : ℕ = sample_place p.shape (pool_of p l) num i in
+        let low = (now_running p s h id b v (reader_of p l) at may.0.0.0.2 may.0.0.0.3).3 in
+        let few = ((h.seated.knows id v at).reads low).few l may.0.0.0.0 in
+        let r = load_sample_allowed p (length s.homes) id (v, []) (λ _. sample_loaded b p v l i) (λ _. Unit {0}) b l num i may (omega arith)
+        (λ _. refl) (λ _ _ _. tt) s h refl at (fit place) in
+        subst Kept (sym e) (settle s id place _ _ r.0 _ r.1 r.3 r.4.0 (sym is))

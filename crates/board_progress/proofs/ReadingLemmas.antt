@@ -24,18 +24,18 @@ use Rattle.board_rule.proofs.buffers.AreaLemmas.{wrote_now}
 use Rattle.board_progress.specs.Moves.{Move}
 use Rattle.board_progress.specs.BufferAdvances.{BufferAdvances}
 use Rattle.board_progress.specs.BufferAdvances.BufferAdvances.{loads_as_reader, loads_sample, lowers_readers, stores_need}
-use Rattle.board_progress.specs.Progress.{SomeAdvances}
+use Rattle.board_progress.specs.Progress.{CanAdvance}
 use Rattle.board_progress.proofs.StaffedLemmas.{within}
 
 module _ (p : BoardLayout) (s : State (Option ℕ) View) (h : Holds p s) where
   abbrev g : Whole
   g = h.whole
 
-  pub buffer_moves : (id : ℕ) (v : View) (x : Move) → get_elem? s.views id ≡ some v → BufferAdvances p s.words v x → SomeAdvances p s
-  buffer_moves id v x at a = (id, v, x, at, inr a)
+  pub buffer_moves : (id : ℕ) (v : View) (x : Move) → get_elem? s.views id ≡ some v → BufferAdvances p s.words v x → CanAdvance p s.words v
+  buffer_moves id v x at a = (x, inr a, λ t. t)
 
   pub read_advances : (b : Bool) (id : ℕ) (v : View) → get_elem? s.views id ≡ some v → (l : ℕ) → l < length p.shape.links
-      → HasNode b p v (reader_of p l) → IsRunning b v (reader_of p l) → (read_of v l).stored ≢ read_cycle b p v l + 1 → SomeAdvances p s
+      → HasNode b p v (reader_of p l) → IsRunning b v (reader_of p l) → (read_of v l).stored ≢ read_cycle b p v l + 1 → CanAdvance p s.words v
   read_advances b id v at l inside hn running open_yet =
       let w = wired p h.seated.sound h.seated.pooled in let k : ShapeLink = link_at p l in let there = link_there p l inside in
       let now = now_running p s h id b v (reader_of p l) at hn running in let run = now.1 in let c = now.0 in

@@ -80,7 +80,7 @@ module _ (p : BoardLayout) where
       let b = bounded n (moved s m.0 m.2) t m.5 in omega arith
 
   -- and so has each run of any steps few advances
-  vain_most : (s : State (Option ℕ) View) (i : ℕ) (v : View) (x : Move) (back : ℕ) → get_elem? s.views i ≡ some v → VainSteps p s.words v x back
+  pub vain_most : (s : State (Option ℕ) View) (i : ℕ) (v : View) (x : Move) (back : ℕ) → get_elem? s.views i ≡ some v → VainSteps p s.words v x back
       → board_left p (moved s i x).views ≤ board_left p s.views + back
   vain_most s i v x back at a = sum_set_most (steps_left p) s.views i back v x.view at (vain_rises p s.words v x back a)
 

@@ -15,6 +15,8 @@ use Rattle.board_progress.specs.NodeAdvances.NodeAdvances.{looks, stores_late}
 use Rattle.board_progress.specs.BufferAdvances.{BufferAdvances}
 use Rattle.board_progress.specs.BufferAdvances.BufferAdvances.{loads_as_writer, loads_readers, stores_sample, stores_readers, stores_have}
 use Rattle.board_progress.specs.BufferAdvances.BufferAdvances.{loads_as_reader, loads_sample, lowers_readers, stores_need}
+use Rattle.board_progress.specs.VainSteps.{VainSteps}
+use Rattle.board_progress.specs.VainSteps.VainSteps.{claims_early, loads_again}
 use Rattle.board_progress.specs.Progress.{Advances, IsStaffed}
 
 module _ (p : BoardLayout) (words : List ℕ) (v : View) where
@@ -53,6 +55,11 @@ module _ (p : BoardLayout) (words : List ℕ) (v : View) where
 
   pub advance_stays : (x : Move) → Advances p words v x → Stays x
   advance_stays x a = ⊎_elim (node_stays x) (buffer_stays x) a
+
+  -- so is one after a step in vain
+  pub vain_stays : (x : Move) (back : ℕ) → VainSteps p words v x back → Stays x
+  vain_stays x back (claims_early b m found h is late none e) = (ap (λ (y : Move). y.view.number) e, ap (λ (y : Move). y.view.split) e)
+  vain_stays x back (loads_again b l id i found h low is more e) = (ap (λ (y : Move). y.view.number) e, ap (λ (y : Move). y.view.split) e)
 
 -- a view of the seats becomes another of the same seat
 pub staffed : (p : BoardLayout) (views : List View) (id : ℕ) (v w : View) → get_elem? views id ≡ some v → w.number ≡ v.number → w.split ≡ v.split

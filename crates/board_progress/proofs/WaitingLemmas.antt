@@ -16,6 +16,7 @@ use Rattle.board_rule.specs.Sums.{times}
 use Rattle.board_rule.specs.Layout.{BoardLayout, nodes}
 use Rattle.board_rule.specs.View.{Whole, node_of}
 use Rattle.board_rule.specs.BoardRule.{Holds}
+use Rattle.board_rule.specs.Steps.{Claims}
 use Rattle.board_rule.specs.activation.Phases.{phase_rest, phase_owing, phase_stage, drive_rest, drive_owing, drive_stage, is_resetting}
 use Rattle.board_rule.specs.activation.ActivationRule.{NodeOk, progress}
 use Rattle.board_rule.proofs.SumLemmas.{total_zero}
@@ -23,7 +24,8 @@ use Rattle.board_rule.proofs.RunLemmas.{Sums, sum_left, sum_debts}
 use Rattle.board_rule.proofs.activation.FollowerLemmas.{rest_at, owing_at, stage_at, words_run}
 use Rattle.board_progress.specs.working.Order.{IsOrdered}
 use Rattle.board_progress.specs.NodeAdvances.NodeAdvances.{claims}
-use Rattle.board_progress.specs.Progress.{IsStaffed, IsUnfinished, SomeAdvances}
+use Rattle.board_progress.specs.Progress.{IsStaffed, IsUnfinished, SomeWork}
+use Rattle.board_progress.specs.Progress.HasWork.{is_called}
 use Rattle.board_progress.proofs.StaffedLemmas.{searched, seat_of, lead_seat, cycles_left}
 use Rattle.board_progress.proofs.FollowerAdvancesLemmas.{node_moves, has_node, follower_advances}
 
@@ -98,39 +100,39 @@ module _ (p : BoardLayout) (s : State (Option ℕ) View) (h : Holds p s) (staff 
         (λ e. ap (times n) (is ∙ ap (λ b. cond b (p.targets m) []) (ne_eqb (g.nodes m).next c e)))))
 
     -- it can be claimed
-    claim_follower : (n : ℕ) → n < nodes p → n ≢ p.driver → (g.nodes n).next ≡ c → ((m : ℕ) → m < nodes p → Blocks n m → ⊥) → SomeAdvances p s
+    claim_follower : (n : ℕ) → n < nodes p → n ≢ p.driver → (g.nodes n).next ≡ c → ((m : ℕ) → m < nodes p → Blocks n m → ⊥) → SomeWork p s
     claim_follower n inside follows now none = let o = seat_of p s h staff n inside follows in
         let stage : (progress p g).stage n ≡ 0 = stage_at p g n follows ∙ ap (phase_stage (eqb (g.nodes n).next c)) (idle n inside follows)
         ∙ ap (λ b. cond {A = ℕ} b 0 2) (eq-eqb (g.nodes n).next c now) in
         let status = is_triggered c _ _ _ _ _ (runs.node n inside) (none_left n none) (free n) stage in
         let same : (node_of o.view n).next ≡ c = ap (λ (y : NodeView). y.next) o.same ∙ now in
-        node_moves p s h staff more o.id o.view _ o.at (claims false n
-        (has_node p s h staff more n o now, ap (λ (y : NodeView). y.phase) o.same ∙ idle n inside follows)
-        (status ∙ ap triggered_word (sym same)) refl)
+        let may : Claims false p o.view n = (has_node p s h staff more n o now, ap (λ (y : NodeView). y.phase) o.same ∙ idle n inside follows) in
+        let word = status ∙ ap triggered_word (sym same) in
+        node_moves p s h staff more o.id o.view _ o.at (claims false n may word refl) (is_called false n may word) (λ t. t)
 
     -- THE LEAST: of the followers that are idle in the driver's cycle one is blocked by no follower
-    least : (k n : ℕ) → order.rank n < k → n < nodes p → n ≢ p.driver → (g.nodes n).next ≡ c → SomeAdvances p s
+    least : (k n : ℕ) → order.rank n < k → n < nodes p → n ≢ p.driver → (g.nodes n).next ≡ c → SomeWork p s
     least zero n low inside follows now = absurd (omega arith)
     least (suc k) n low inside follows now = ⊎_elim
         (λ t. let b = t.2 in let up = order.rises t.0 n t.1 inside b.0 follows b.2 in least k t.0 (omega arith) t.1 b.0 b.1)
         (λ none. claim_follower n inside follows now none) (searched (Blocks n) (blocks_or n) (nodes p))
 
-    claim_lead : ((n : ℕ) → n < nodes p → Blocks p.driver n → ⊥) → SomeAdvances p s
+    claim_lead : ((n : ℕ) → n < nodes p → Blocks p.driver n → ⊥) → SomeWork p s
     claim_lead none = let o = lead_seat p s h staff in let inside = h.seated.sound.driver_in in
         let status = is_triggered c _ _ _ _ _ (runs.node p.driver inside) (none_left p.driver none) (free p.driver) lead_stage in
         let same : o.view.lead.cycle ≡ c = ap (λ (x : DriverView). x.cycle) o.same in let low = h.activations.later in
         let high = cycles_left p s h staff more in
-        node_moves p s h staff more o.id o.view _ o.at (claims true p.driver
-        (((refl, o.number, o.owners), (omega arith, omega arith), inside), ap (λ (x : DriverView). x.drive) o.same ∙ waits)
-        (status ∙ ap triggered_word (sym same)) refl)
+        let may : Claims true p o.view p.driver = (((refl, o.number, o.owners), (omega arith, omega arith), inside), ap (λ (x : DriverView). x.drive) o.same ∙ waits) in
+        let word = status ∙ ap triggered_word (sym same) in
+        node_moves p s h staff more o.id o.view _ o.at (claims true p.driver may word refl) (is_called true p.driver may word) (λ t. t)
 
     -- a follower that blocks the driver is idle in its cycle, and then the least of them can be claimed
-    idle_advances : SomeAdvances p s
+    idle_advances : SomeWork p s
     idle_advances = ⊎_elim
         (λ t. let b = t.2 in least (suc (order.rank t.0)) t.0 (omega arith) t.1 b.0 b.1)
         claim_lead (searched (Blocks p.driver) (blocks_or p.driver) (nodes p))
 
-  module _ (works : (n : ℕ) → n < nodes p → n ≢ p.driver → (g.nodes n).phase ≡ Running → SomeAdvances p s) where
+  module _ (works : (n : ℕ) → n < nodes p → n ≢ p.driver → (g.nodes n).phase ≡ Running → SomeWork p s) where
     abbrev IsBusy : ℕ → Type 0
     IsBusy n = (n ≢ p.driver) × ((g.nodes n).phase ≡ Idle → ⊥)
 
@@ -138,7 +140,7 @@ module _ (p : BoardLayout) (s : State (Option ℕ) View) (h : Holds p s) (staff 
     busy_or n = dite (ℕ_discrete n p.driver) (λ e. inr (λ b. b.0 e))
         (λ o. ⊎_elim (λ e. inr (λ b. b.1 e)) (λ e. inl (o, e)) (idle_or (g.nodes n).phase))
 
-    pub waiting_advances : SomeAdvances p s
+    pub waiting_advances : SomeWork p s
     waiting_advances = ⊎_elim
         (λ t. follower_advances p s h staff more works t.0 t.1 t.2.0 (g.nodes t.0).phase refl t.2.1)
         (λ none. idle_advances (λ n inside follows. ⊎_elim (λ e. e) (λ e. absurd (none n inside (follows, e))) (idle_or (g.nodes n).phase)))

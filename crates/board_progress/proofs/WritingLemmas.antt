@@ -37,7 +37,7 @@ use Rattle.board_rule.proofs.buffers.ReclaimLemmas.{busy_cycles_most, reclaimed_
 use Rattle.board_rule.proofs.buffers.BlockStepsLemmas.{finds_none}
 use Rattle.board_rule.proofs.buffers.PoolWordLemmas.{pools_have_words}
 use Rattle.board_progress.specs.BufferAdvances.BufferAdvances.{loads_as_writer, loads_readers, stores_sample, stores_readers, stores_have}
-use Rattle.board_progress.specs.Progress.{SomeAdvances}
+use Rattle.board_progress.specs.Progress.{CanAdvance}
 use Rattle.board_progress.proofs.StaffedLemmas.{within, searched}
 use Rattle.board_progress.proofs.ReadingLemmas.{buffer_moves}
 
@@ -102,7 +102,7 @@ module _ (p : BoardLayout) (s : State (Option ℕ) View) (h : Holds p s) (id : �
 
   -- a link that is not yet loaded in this cycle
   pub load_advances : (l : ℕ) → l < length p.shape.links → HasNode false p v (writer_of p l) → IsRunning false v (writer_of p l)
-      → (write_of v l).loaded ≢ write_cycle p v l + 1 → SomeAdvances p s
+      → (write_of v l).loaded ≢ write_cycle p v l + 1 → CanAdvance p s.words v
   load_advances l inside hn running open_yet = let k : ShapeLink = link_at p l in let there = link_there p l inside in
       let now = now_running p s h id false v (writer_of p l) at hn running in let run = now.1 in let c = now.0 in
       let full = (h.seated.knows id v at).ends.of_write l k there now.2 in
@@ -179,7 +179,7 @@ module _ (p : BoardLayout) (s : State (Option ℕ) View) (h : Holds p s) (id : �
         let out = (ok.named j cj).out 0 (c + 1) (omega arith) (omega arith) (omega arith) (omega arith) in
         (stored_id (g.ends.writes j) 0, inside, sym (block_is (stored_id (g.ends.writes j) 0) inside) ∙ out)
 
-    pub pool_advances : SomeAdvances p s
+    pub pool_advances : CanAdvance p s.words v
     pool_advances = ⊎_elim announced unannounced
         (searched (λ a. (a < x.blocks) × (block_of p v q a ≡ Out (c + 1))) is_out x.blocks)
       where
@@ -189,7 +189,7 @@ module _ (p : BoardLayout) (s : State (Option ℕ) View) (h : Holds p s) (id : �
             (λ z. inr (λ t. let y = t.0 in z (omega arith)))
 
         -- a block of this cycle is announced: the link is published
-        announced : (a : ℕ) × (a < x.blocks) × ((a < x.blocks) × (block_of p v q a ≡ Out (c + 1))) → SomeAdvances p s
+        announced : (a : ℕ) × (a < x.blocks) × ((a < x.blocks) × (block_of p v q a ≡ Out (c + 1))) → CanAdvance p s.words v
         announced t = let k = w.there q l x there in_pool in
             let wc : cycle_of false v (writer_of p l) ≡ c = ap (cycle_of false v) (writer_is l in_pool) in
             let load = loaded l in_pool in let turn = turn_of l in_pool in let t₀ = turn.0 in let t₁ = turn.1 in let lt = t.1 in
@@ -207,7 +207,7 @@ module _ (p : BoardLayout) (s : State (Option ℕ) View) (h : Holds p s) (id : �
               sym (ap (λ j. block_of p v j t.0) mine) ∙ t.2.1 ∙ ap (λ j. Out (j + 1)) (sym wc),
             ) refl)
 
-        unannounced : ((a : ℕ) → a < x.blocks → (a < x.blocks) × (block_of p v q a ≡ Out (c + 1)) → ⊥) → SomeAdvances p s
+        unannounced : ((a : ℕ) → a < x.blocks → (a < x.blocks) × (block_of p v q a ≡ Out (c + 1)) → ⊥) → CanAdvance p s.words v
         unannounced none = ⊎_elim filling unfilled (searched (λ a. IsFilling (block_of p v q a)) (λ a. filling_or (block_of p v q a)) x.blocks)
           where
             writing : IsWriting p v q
@@ -215,21 +215,21 @@ module _ (p : BoardLayout) (s : State (Option ℕ) View) (h : Holds p s) (id : �
                 (loaded j cj, dite (ℕ_discrete (write_of v j).stored (c + 1)) (λ e. let d = said j cj e in absurd (none d.0 d.1 (d.1, d.2))) (λ o. omega arith))
 
             -- a block is being filled: its next word, or it is announced
-            filling : (a : ℕ) × (a < x.blocks) × IsFilling (block_of p v q a) → SomeAdvances p s
+            filling : (a : ℕ) × (a < x.blocks) × IsFilling (block_of p v q a) → CanAdvance p s.words v
             filling t = let i : ℕ = t.2.0 in let full = (h.buffers.blocks q t.0 x there t.1).full in
                 let most : filled x.words (g.ends.blocks q t.0) ≡ i = ap (filled x.words) (block_is t.0 t.1 ∙ t.2.1) in
                 dite (ℕ_discrete i x.words)
                 (λ e. buffer_moves p s h id v _ at (stores_readers q t.0 (has_block t.0 t.1, t.2.1 ∙ ap (λ j. Filling j) e) refl))
                 (λ o. buffer_moves p s h id v _ at (stores_sample q t.0 i _ (has_block t.0 t.1, writing, (omega arith), refl, inl t.2.1) refl))
 
-            unfilled : ((a : ℕ) → a < x.blocks → IsFilling (block_of p v q a) → ⊥) → SomeAdvances p s
+            unfilled : ((a : ℕ) → a < x.blocks → IsFilling (block_of p v q a) → ⊥) → CanAdvance p s.words v
             unfilled idle = dite (dec_le (g.ends.reclaimed q) c) due back
               where
                 ok : PoolOk p x (sp (p.index x.port.node)) (g.ends.reclaimed q) g.ends.writes (g.ends.blocks q)
                 ok = h.buffers.pools q x there
 
                 -- the block that is due has come back
-                due : g.ends.reclaimed q ≤ c → SomeAdvances p s
+                due : g.ends.reclaimed q ≤ c → CanAdvance p s.words v
                 due waits = let cyc = now.0 in let run = now.1 in let begun = ok.reclaims.begun in let most = busy_cycles_most p x in
                     let d = due_out p sp g.ends g.expect s.words w h.buffers q x there (omega arith) in
                     let same : (sp (filler_of p q)).ended + 1 - busy_cycles p x ≡ due_stamp p v q = omega arith in
@@ -239,7 +239,7 @@ module _ (p : BoardLayout) (s : State (Option ℕ) View) (h : Holds p s) (id : �
                     (has_block d.0 d.1, loaded, inl (sym (block_is d.0 d.1) ∙ out, (omega arith))) none refl)
 
                 -- it is reclaimed: no busy block is due, and one is free
-                back : (g.ends.reclaimed q ≤ c → ⊥) → SomeAdvances p s
+                back : (g.ends.reclaimed q ≤ c → ⊥) → CanAdvance p s.words v
                 back past = ⊎_elim zero_free zero_out (else_out (block_of p v q 0) (idle 0 some))
                   where
                     some : 0 < x.blocks
@@ -261,14 +261,14 @@ module _ (p : BoardLayout) (s : State (Option ℕ) View) (h : Holds p s) (id : �
                         (λ t. subst (λ y. (stamp c y < c + 1) × (c + 1 < stamp c y + busy_cycles p x)) (sym t.1) (recent a t.0 lt t.1))
                         (else_out (block_of p v q a) (idle a lt))
 
-                    fills : (a : ℕ) → a < x.blocks → block_of p v q a ≡ Free → SomeAdvances p s
+                    fills : (a : ℕ) → a < x.blocks → block_of p v q a ≡ Free → CanAdvance p s.words v
                     fills a lt free = let words = pools_have_words p h.seated.sound h.seated.pooled q x there in
                         buffer_moves p s h id v _ at (stores_sample q a 0 _ (has_block a lt, writing, words, refl, inr (free, refl, room)) refl)
 
-                    zero_free : block_of p v q 0 ≡ Free → SomeAdvances p s
+                    zero_free : block_of p v q 0 ≡ Free → CanAdvance p s.words v
                     zero_free e = fills 0 some e
 
-                    zero_out : (n : ℕ) × (block_of p v q 0 ≡ Out n) → SomeAdvances p s
+                    zero_out : (n : ℕ) × (block_of p v q 0 ≡ Out n) → CanAdvance p s.words v
                     zero_out t = let r = recent 0 t.0 some t.1 in let r₀ = r.0 in let r₁ = r.1 in let most = busy_cycles_most p x in
                         let two = two_blocks p q x there (omega arith) in
                         ⊎_elim (λ e. fills 1 (omega arith) e)

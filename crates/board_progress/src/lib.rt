@@ -6,4 +6,5 @@ mod progress;
 
 pub use progress::{
     board_goes_on, board_is_never_stuck, end_is_reached, new_boards_can_start, runs_are_bounded,
+    some_work_is_there,
 };

@@ -1,0 +1,12 @@
+pub mod FrameLemmas
+pub mod RowLemmas
+pub mod NodeEndLemmas
+pub mod SleeperLemmas
+pub mod StillLemmas
+pub mod CalledLemmas
+pub mod KeptLemmas
+pub mod HeardLemmas
+pub mod ReachedLemmas
+pub mod NeverStuckLemmas
+pub mod EndLemmas
+pub mod RestsLeftLemmas
