@@ -46,7 +46,7 @@ def node_text(number: int, node: Node) -> str:
     inputs, outputs = INPUTS.get(node.kind, ()), OUTPUTS.get(node.kind, ())
     rows = max(len(inputs), len(outputs), 1)
     small = "".join(f'<BR/><FONT POINT-SIZE="10">{xml(line)}</FONT>' for line in details(node))
-    middle = cell(f"<B>{xml(node.name.decode())}</B>{small}", f'ROWSPAN="{rows}"')
+    middle = cell(f"<B>{xml(node.name.decode())}</B>{small}", f'ROWSPAN="{rows}" CELLPADDING="9"')
     text = ""
     for row in range(rows):
         left = port_cell(inputs, row, rows, "i")
@@ -160,6 +160,15 @@ class Edges:
         return [text for occurs, text in marks if occurs]
 
 
+def ranks(script: Script) -> List[str]:
+    """Sources stand in the first rank, sinks and meters in the last."""
+    lines = []
+    for rank, kinds in (("source", (b"source", b"square")), ("sink", (b"sink", b"meter"))):
+        names = [f"n{at}" for at, node in enumerate(script.nodes.values()) if node.kind in kinds]
+        lines += [f"  {{ rank={rank}; {'; '.join(names)} }}"] if names else []
+    return lines
+
+
 def about(script: Script, made: List[Made]) -> str:
     """What the graph shows, in words."""
     refused = sum(bool(it.cause) for it in made)
@@ -179,11 +188,12 @@ def draw(script: Script, made: List[Made], title: str, fault: str = "") -> bytes
     many = len(script.links) > MANY_LINKS
     lines = [
         "digraph pipegraph {",
-        f'  rankdir=LR; ranksep={1.4 if many else 0.8}; nodesep={0.25 if many else 0.35}; outputorder=edgesfirst;',
+        f'  rankdir=LR; ranksep={1.6 if many else 0.8}; nodesep={0.08 if many else 0.35}; outputorder=edgesfirst;',
         f'  fontname="{LETTERS}"; fontsize=11; labelloc=b; labeljust=l; tooltip="{dot(title)}: {about(script, made)}";',
         f'  node [shape=plain, fontname="{LETTERS}", fontsize=12, fontcolor="{DARK}"];',
         f'  edge [arrowsize=0.7, color="{DARK}", fontname="{LETTERS}", fontsize=9, fontcolor="{DARK}"];',
         *(node_text(number, node) for number, node in enumerate(script.nodes.values())),
+        *ranks(script),
         *(edges.text(link) for link in script.links),
         f"  label=<{label}>;" if label else '  label="";', "}"]
     return ("\n".join(lines) + "\n").encode()

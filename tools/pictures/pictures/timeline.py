@@ -71,11 +71,9 @@ def bands_of(events: List[Event]) -> List[Tuple[int, int]]:
 
 
 def finish_of(events: List[Event], at: int) -> Optional[int]:
-    """The place of the finish of a start."""
-    for later in range(at + 1, len(events)):
-        if events[later].kind == FINISH and events[later].nodes == events[at].nodes:
-            return later
-    return None
+    """The place of the finish of a start, of the same node in the same cycle."""
+    wanted = Event(FINISH, events[at].cycle, events[at].nodes)
+    return next((later for later in range(at + 1, len(events)) if events[later] == wanted), None)
 
 
 class Drawing:

@@ -1,0 +1,96 @@
+"""Bad input and closed outputs: one sentence, the status, and nothing written."""
+from __future__ import annotations
+
+import os
+import subprocess
+import sys
+
+from .asking import TOOL, Asking
+from .waves import wav
+
+SCRIPT = "quantum 4\nsquare a 48000 1 4 9\nsink o o.wav\nlink a.out o.in\ncycles 2\n"
+FRONT = "pipegraph-pictures: "
+
+
+def refused(asking: Asking, words, status: int, line: str, sentence: str) -> None:
+    done = asking.ask(*words)
+    asking.same(str(words), (status, line + "\n", FRONT + sentence + "\n"),
+                (done.returncode, done.stdout.decode(), done.stderr.decode()))
+
+
+def nothing(asking: Asking) -> None:
+    """46 MB of zeros, as each file that is read."""
+    asking.file("s", SCRIPT)
+    asking.file("zeros", bytes(46 << 20))
+    refused(asking, ["graph", "s", "zeros"], 2, "line 1", "zeros:1: no line of a run")
+    refused(asking, ["timeline", "s", "zeros"], 2, "line 1", "zeros:1: no line of a run")
+    refused(asking, ["wave", "zeros"], 3, "wav 1 1", "zeros: this is no RIFF WAVE file")
+    refused(asking, ["graph", "zeros"], 8, "limit 0 1", "cannot read zeros: it has more than 1048576 bytes")
+
+
+def cut_waves(asking: Asking) -> None:
+    """A WAV file that is cut at each place before its end."""
+    held = wav([1, 2, 3, 4], 2)
+    for at in range(len(held)):
+        done = asking.ask("wave", asking.file("cut.wav", held[:at]))
+        asking.same(f"{at} bytes", (3, 1, True), (done.returncode, done.stderr.count(b"\n"),
+                                                  done.stdout.startswith(b"wav 1 ")))
+
+
+def other_scripts(asking: Asking) -> None:
+    asking.file("s", SCRIPT)
+    asking.file("t", "begin 0\nstart 0 voice\n")
+    refused(asking, ["timeline", "s", "t"], 2, "line 2", "t:2: the run of another script: s has no node voice")
+
+
+def no_text(asking: Asking) -> None:
+    """Words that are no text in UTF-8."""
+    done = subprocess.run([sys.executable.encode(), os.fsencode(TOOL / "pipegraph-pictures"), b"graph", b"\xff"],
+                          stdout=subprocess.PIPE, stderr=subprocess.PIPE)
+    asking.same("a word", (1, b"", b"pipegraph-pictures: word 2 is not text in UTF-8\n"),
+                (done.returncode, done.stdout, done.stderr))
+
+
+def outputs(asking: Asking) -> None:
+    """A full disk, a pipe that nobody reads, and an output that is closed: one sentence and 7."""
+    asking.file("s", SCRIPT)
+    said = b"pipegraph-pictures: the picture could not be written\n"
+    if os.path.exists("/dev/full"):
+        with open("/dev/full", "wb") as full:
+            done = asking.ask("graph", "s", stdout=full)
+        asking.same("a full disk", (7, said), (done.returncode, done.stderr))
+    read, write = os.pipe()
+    os.close(read)
+    done = asking.ask("graph", "s", stdout=write)
+    os.close(write)
+    asking.same("a broken pipe", (7, said), (done.returncode, done.stderr))
+    done = asking.ask("graph", "s", preexec_fn=lambda: os.close(1))
+    asking.same("a closed output", (7, said), (done.returncode, done.stderr))
+
+
+def stores(asking: Asking) -> None:
+    """A Perfetto file that cannot be written; no other command writes a file."""
+    asking.file("s", SCRIPT)
+    asking.file("t", "begin 0\nend 0\n")
+    refused(asking, ["timeline", "s", "t", "--perfetto", "no/such"], 7, "write 0", "no/such could not be written")
+    asking.ask("graph", "s", "t")
+    asking.same("files", ["s", "t"], sorted(os.listdir(asking.folder)))
+
+
+def perfetto_over_input(asking: Asking) -> None:
+    """A refused trace leaves the named file as it was."""
+    asking.file("s", SCRIPT)
+    asking.file("t", "begin 0\nx\n")
+    asking.file("kept", "kept")
+    asking.same("status", 2, asking.ask("timeline", "s", "t", "--perfetto", "kept").returncode)
+    asking.same("file", "kept", (asking.folder / "kept").read_text())
+
+
+def helps(asking: Asking) -> None:
+    """Help and version on standard output, with 0."""
+    for word, front in [("--help", b"usage: pipegraph-pictures graph"), ("--version", b"pipegraph-pictures 0.1\n")]:
+        done = asking.ask(word)
+        asking.same(word, (0, True, b""), (done.returncode, done.stdout.startswith(front), done.stderr))
+
+
+TESTS = [nothing, cut_waves, other_scripts, no_text, outputs, stores, perfetto_over_input, helps]
