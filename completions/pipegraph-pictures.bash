@@ -8,6 +8,11 @@ _pipegraph_pictures() {
     local word=${COMP_WORDS[COMP_CWORD]}
     COMPREPLY=()
     case $COMP_CWORD in
+    [2-9]) [[ $word == -* ]] && case ${COMP_WORDS[1]} in
+        graph) mapfile -t COMPREPLY < <(compgen -W "--partial" -- "$word"); return ;;
+        timeline) mapfile -t COMPREPLY < <(compgen -W "--perfetto" -- "$word"); return ;;
+        wave) mapfile -t COMPREPLY < <(compgen -W "--db" -- "$word"); return ;;
+        esac ;;&
     1) mapfile -t COMPREPLY < <(compgen -W "graph timeline wave" -- "$word") ;;
     2)
         case ${COMP_WORDS[1]} in

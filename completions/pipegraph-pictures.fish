@@ -5,3 +5,6 @@ complete -c pipegraph-pictures -n "not __fish_seen_subcommand_from $commands" -a
 complete -c pipegraph-pictures -n "not __fish_seen_subcommand_from $commands" -a timeline -d 'draw a trace as SVG'
 complete -c pipegraph-pictures -n "not __fish_seen_subcommand_from $commands" -a wave -d 'draw the peaks of a WAV file as SVG'
 complete -c pipegraph-pictures -n '__fish_seen_subcommand_from graph timeline wave' -F
+complete -c pipegraph-pictures -n '__fish_seen_subcommand_from graph' -l partial -d 'a script at fault as far as it goes'
+complete -c pipegraph-pictures -n '__fish_seen_subcommand_from timeline' -l perfetto -r -d 'store the events for Perfetto'
+complete -c pipegraph-pictures -n '__fish_seen_subcommand_from wave' -l db -d 'a scale in decibels'

@@ -12,7 +12,8 @@ from typing import NamedTuple
 
 TOP = Path(__file__).resolve().parents[2]
 MAIN, PODS, PICTURES = "pipegraph", "pipegraph-pods", "pipegraph-pictures"
-CRATES = {MAIN: "pw_main", PODS: "pw_pods", PICTURES: "pw_pictures"}
+CRATES = {MAIN: "pw_main", PODS: "pw_pods"}
+TOOL = TOP / "tools/pictures" / PICTURES  # it is no built program
 NOBODY = 65534
 SECONDS = 180  # after which a case is stopped: a difference
 HANGS = 3  # so many such cases end their group
@@ -41,7 +42,15 @@ def programs_of(folder):
         if not there:
             raise SystemExit(f"{tried[0]} is not there: `rt ci` builds the three programs")
         found[name] = there[0]
+    installed = Path(folder) / PICTURES if folder else TOOL
+    found[PICTURES] = installed.resolve() if installed.is_file() else TOOL
     return found
+
+
+def modules_of(tool):
+    """The folder of the modules of pipegraph-pictures, beside it or where ./install puts them."""
+    beside, installed = tool.parent / "pictures", tool.parent.parent / "share/pipegraph/pictures"
+    return beside if beside.is_dir() else installed
 
 
 def shown(value, other=None):
@@ -75,6 +84,8 @@ class Place:
         for name, path in programs.items():
             shutil.copy(path, self.folder / name)
             (self.folder / name).chmod(0o755)
+        shutil.copytree(modules_of(programs[PICTURES]), self.folder / "pictures",
+                        ignore=shutil.ignore_patterns("__pycache__"))
         self.part = part
         self.count, self.hangs, self.differences, self.passed_over = 0, 0, [], []
 

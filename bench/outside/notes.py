@@ -1,5 +1,7 @@
 """Notes on what was accepted, only by standard error; and what pipegraph-pictures draws of them."""
+import html
 import os
+import re
 
 from asking import PICTURES, PODS
 from messages import told
@@ -134,9 +136,8 @@ def drawn(place):
             graph = ["graph", name, "some.text"]
             _, bare, _ = told(place, graph, of=PICTURES)
             status, dot, _ = told(place, [*graph, "some.notes"], of=PICTURES)
-            labels = [line.split(b'label="')[1][:-3].split(b"\\n", 1) for line in dot.splitlines() if b"plaintext" in line]
-            place.same(f"sides of {lines}", (0, sides),
-                       (status, [b"".join(label[1:]).decode() for label in labels]))
+            labels = re.findall(r"label=<line \d+: .*?(?:<BR/>(.*?))?>, color", dot.decode())
+            place.same(f"sides of {lines}", (0, sides), (status, [html.unescape(label) for label in labels]))
             for notes in ["", text, errors.replace(b"some", b"same").replace(b"odd", b"add"),
                           errors.replace(b"pipegraph: ", b"pipegraph:")]:
                 place.file("some.notes", notes)

@@ -62,9 +62,13 @@ def helps(place):
     for words in [[], ["-h"], ["--help"], ["--version"]]:
         answer = place.expect(f"pipegraph {words}", words, 1, "usage 0\n")
         place.same(f"pipegraph {words}: help", True, answer.errors.startswith(b"pipegraph 0.1: "))
-        answer = place.expect(f"pipegraph-pictures {words}", words, 1, "usage 0\n", of=PICTURES)
-        place.same(f"pipegraph-pictures {words}: the version", True,
-                   b"\nversion 0.1; the manual: man pipegraph-pictures" in answer.errors)
+    answer = place.expect("pipegraph-pictures without words", [], 1, "usage 0\n", of=PICTURES)
+    place.same("pipegraph-pictures: the version", True,
+               b"\nversion 0.1; the manual: man pipegraph-pictures" in answer.errors)
+    for word, front in [("-h", b"usage: "), ("--help", b"usage: "), ("--version", b"")]:
+        answer = place.ask(word, of=PICTURES)
+        place.same(f"pipegraph-pictures {word}", (0, True, b""),
+                   (answer.status, answer.out.startswith(front + b"pipegraph-pictures "), answer.errors))
     answer = place.expect("the version of pipegraph-pods", ["--version"], 1, of=PODS)
     place.same("pipegraph-pods --version", True,
                answer.errors.startswith(b"pipegraph-pods: version 0.1; the manual: man "))
@@ -102,8 +106,9 @@ def no_text(place):
         place.same(f"what is said of {words}", said.encode(), answer.errors)
     for of, words in [(MAIN, ["run", "/dev/null"]), (MAIN, ["soak", "7"]), (PODS, ["--help"]),
                       (PICTURES, ["graph", "/dev/null"])]:
-        answer = place.ask(*words, of=of, name=b"\xff\xfe")
-        refused(place, f"{of} by a name that is no text", of, 0, answer)
+        if of != PICTURES:  # which is told its path by the system, whatever its caller says
+            answer = place.ask(*words, of=of, name=b"\xff\xfe")
+            refused(place, f"{of} by a name that is no text", of, 0, answer)
         answer = place.ask(*words[:-1], b"\xff", of=of)
         refused(place, f"{of} {words[:-1]} and a word that is no text", of, len(words), answer)
 

@@ -12,8 +12,8 @@ from .status import Ended, memory
 
 SCRIPT_LIMIT = 1048576
 FILE_LIMIT = 268435456
-# The numbers of the limits: bytes of a script, bytes of any other file.
-SCRIPT_BYTES, FILE_BYTES = 1, 11
+# The numbers of the limits: bytes of a script, of a WAV file, of a trace or of notes.
+SCRIPT_BYTES, WAV_BYTES, TRACE_BYTES = 1, 2, 11
 
 REASONS = {
     errno.ENOTDIR: b": there is no such folder, or it can have no such file",
@@ -42,23 +42,27 @@ def refused(name: bytes, place: int, error: OSError) -> Ended:
     return Ended(6, b"read %d\n" % place, said + b": the system refuses it" + REASONS.get(error.errno, b""))
 
 
-def too_long(name: bytes, place: int, limit: int) -> Ended:
-    which = SCRIPT_BYTES if limit == SCRIPT_LIMIT else FILE_BYTES
-    said = b"cannot read %s: it has more than %d bytes" % (shown(name), limit)
+def too_long(name: bytes, place: int, which: int) -> Ended:
+    said = b"cannot read %s: it has more than %d bytes" % (shown(name), limit_of(which))
     return Ended(8, b"limit %d %d\n" % (place, which), said)
 
 
-def load(name: bytes, place: int, limit: int = FILE_LIMIT) -> bytes:
-    """All bytes of a file, or how it is refused."""
+def limit_of(which: int) -> int:
+    return SCRIPT_LIMIT if which == SCRIPT_BYTES else FILE_LIMIT
+
+
+def load(name: bytes, place: int, which: int) -> bytes:
+    """All bytes of a file, or how it is refused; `which` limit it has."""
+    limit = limit_of(which)
     try:
         with open(name, "rb") as file:
             if os.fstat(file.fileno()).st_size > limit:
-                raise too_long(name, place, limit)
+                raise too_long(name, place, which)
             held = file.read(limit + 1)
     except OSError as error:
         raise refused(name, place, error) from error
     except MemoryError as error:
         raise memory() from error
     if len(held) > limit:
-        raise too_long(name, place, limit)
+        raise too_long(name, place, which)
     return held

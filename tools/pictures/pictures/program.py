@@ -6,15 +6,25 @@ from __future__ import annotations
 
 import os
 import sys
+from dataclasses import dataclass
 from typing import List, Tuple
 
 from . import graph, perfetto, request, run_text, script, timeline, wav, wave
-from .files import SCRIPT_LIMIT, load
+from .files import SCRIPT_BYTES, TRACE_BYTES, WAV_BYTES, load
 from .look import said
-from .shown import escaped, shown
+from .shown import shown
 from .status import PROGRAM, SECOND_PLACE, Ended, memory
 
 NOTES_PLACE, WAVE_PLACE = 3, 1
+
+
+@dataclass(frozen=True)
+class Answer:
+    """The status of a call, what it puts on standard output, and what it says on standard error after that."""
+
+    status: int
+    text: bytes
+    said: bytes = b""
 
 
 def title_of(file: bytes) -> str:
@@ -29,31 +39,30 @@ def fault_said(file: bytes, fault: script.Fault) -> bytes:
 
 
 def load_script(file: bytes, partial: bool = False) -> script.Script:
-    read = script.read(load(file, 0, SCRIPT_LIMIT))
+    read = script.read(load(file, 0, SCRIPT_BYTES))
     if read.fault is not None and not partial:
         raise Ended(2, read.fault.printed(), fault_said(file, read.fault))
     return read
 
 
 def load_run(file: bytes, of: script.Script, name: bytes) -> bytes:
-    text = load(file, SECOND_PLACE)
+    text = load(file, SECOND_PLACE, TRACE_BYTES)
     run_text.Reader(of).check(text, file, name)
     return text
 
 
-def draw_graph(asked: request.Graph) -> bytes:
+def draw_graph(asked: request.Graph) -> Answer:
     read = load_script(asked.script, asked.partial)
     made: List[run_text.Made] = []
     if asked.run is not None:
         text = load_run(asked.run, read, asked.script)
-        notes = load(asked.notes, NOTES_PLACE) if asked.notes is not None else b""
+        notes = load(asked.notes, NOTES_PLACE, TRACE_BYTES) if asked.notes is not None else b""
         made = run_text.made_of(text, notes, read, asked.script)
     title = title_of(asked.script)
     if read.fault is None:
-        return graph.draw(read, made, title)
+        return Answer(0, graph.draw(read, made, title))
     sentence = fault_said(asked.script, read.fault)
-    sys.stderr.buffer.write(PROGRAM + sentence + b"\n")
-    return graph.draw(read, made, title, sentence.decode())
+    return Answer(2, graph.draw(read, made, title, sentence.decode()), PROGRAM + sentence + b"\n")
 
 
 def no_cycle(asked: request.Timeline) -> Ended:
@@ -71,14 +80,14 @@ def events_shown(asked: request.Timeline, text: bytes) -> Tuple[timeline.Shown, 
     return timeline.Shown(found[: timeline.MOST], before, count, asked.illegal), found
 
 
-def draw_timeline(asked: request.Timeline) -> bytes:
+def draw_timeline(asked: request.Timeline) -> Answer:
     read = load_script(asked.script)
     text = load_run(asked.trace, read, asked.script)
     shown_events, found = events_shown(asked, text)
     title = f"{title_of(asked.trace)}, a run of {title_of(asked.script)}"
     if asked.perfetto is not None:
         store(asked.perfetto, perfetto.written(read, found, title_of(asked.script)))
-    return timeline.Drawing(read, shown_events).draw(title)
+    return Answer(0, timeline.Drawing(read, shown_events).draw(title))
 
 
 def store(file: bytes, text: bytes) -> None:
@@ -89,18 +98,20 @@ def store(file: bytes, text: bytes) -> None:
         raise Ended(7, b"write 0\n", shown(file) + b" could not be written") from error
 
 
-def draw_wave(asked: request.Wave) -> bytes:
-    held = load(asked.file, WAVE_PLACE)
+def draw_wave(asked: request.Wave) -> Answer:
+    held = load(asked.file, WAVE_PLACE, WAV_BYTES)
     try:
         samples = wav.read(held)
     except wav.Fault as fault:
         raise Ended(3, b"wav %d %d\n" % (WAVE_PLACE, fault.number),
                     shown(asked.file) + b": " + wav.SENTENCES[fault.number]) from fault
     del held
-    return wave.draw(samples, title_of(asked.file), asked.decibels)
+    return Answer(0, wave.draw(samples, title_of(asked.file), asked.decibels))
 
 
-def picture(asked) -> bytes:
+def picture(asked: request.Request) -> Answer:
+    if isinstance(asked, request.Help):
+        return Answer(0, asked.text)
     if isinstance(asked, request.Graph):
         return draw_graph(asked)
     return draw_timeline(asked) if isinstance(asked, request.Timeline) else draw_wave(asked)
@@ -125,21 +136,15 @@ def tell(text: bytes) -> None:
         pass
 
 
-def answer(words: List[bytes]) -> Tuple[int, bytes]:
-    """The status of a call and what it puts on standard output; what it says is said."""
+def answer(words: List[bytes]) -> Answer:
+    """What the words after the program's own name are answered."""
     try:
-        asked = request.read(words)
-        if isinstance(asked, request.Help):
-            return 0, asked.text
-        text = picture(asked)
-        is_partial = isinstance(asked, request.Graph) and asked.partial and b"<FONT COLOR=\"#c00000\">" in text
-        return (2 if is_partial else 0), text
+        return picture(request.read(words))
     except MemoryError:
         ended = memory()
     except Ended as it:
         ended = it
-    tell(ended.sentence + ended.more)
-    return ended.status, ended.line
+    return Answer(ended.status, ended.line, ended.sentence + ended.more)
 
 
 def closed_quietly() -> None:
@@ -157,9 +162,10 @@ def main(argv: List[str]) -> int:
         if not request.is_text(word):
             tell(PROGRAM + b"word %d is not text in UTF-8\n" % index)
             return 1
-    status, text = answer(words)
-    if put(text):
-        return status
+    answered = answer(words)
+    if put(answered.text):
+        tell(answered.said)
+        return answered.status
     tell(PROGRAM + b"the picture could not be written\n")
     closed_quietly()
     return 7

@@ -6,7 +6,7 @@ from __future__ import annotations
 
 import re
 from dataclasses import dataclass
-from typing import List, Optional, Tuple
+from typing import List, Optional, Tuple, Union
 
 from .shown import guesses, shown
 from .status import Ended
@@ -55,6 +55,9 @@ class Wave:
 
     file: bytes
     decibels: bool
+
+
+Request = Union[Help, Graph, Timeline, Wave]
 
 
 def usage(index: int, sentence: Optional[bytes] = None) -> Ended:
@@ -166,7 +169,7 @@ def is_text(word: bytes) -> bool:
     return True
 
 
-def read(words: List[bytes]):
+def read(words: List[bytes]) -> Request:
     """What the words after the program's own name ask for."""
     if not words:
         raise usage(0)

@@ -28,6 +28,19 @@ def nothing(asking: Asking) -> None:
     refused(asking, ["graph", "zeros"], 8, "limit 0 1", "cannot read zeros: it has more than 1048576 bytes")
 
 
+def too_long(asking: Asking) -> None:
+    """A file of more bytes than its kind may have, by the number of its limit."""
+    asking.file("s", SCRIPT)
+    with open(asking.folder / "long", "wb") as file:
+        file.truncate((256 << 20) + 1)
+    said = "cannot read long: it has more than 268435456 bytes"
+    refused(asking, ["wave", "long"], 8, "limit 1 2", said)
+    refused(asking, ["graph", "s", "long"], 8, "limit 4294967295 11", said)
+    refused(asking, ["graph", "s", "s", "long"], 2, "line 1", "s:1: no line of a run")
+    asking.file("t", "begin 0\n")
+    refused(asking, ["graph", "s", "t", "long"], 8, "limit 3 11", said)
+
+
 def cut_waves(asking: Asking) -> None:
     """A WAV file that is cut at each place before its end."""
     held = wav([1, 2, 3, 4], 2)
@@ -93,4 +106,4 @@ def helps(asking: Asking) -> None:
         asking.same(word, (0, True, b""), (done.returncode, done.stdout.startswith(front), done.stderr))
 
 
-TESTS = [nothing, cut_waves, other_scripts, no_text, outputs, stores, perfetto_over_input, helps]
+TESTS = [nothing, too_long, cut_waves, other_scripts, no_text, outputs, stores, perfetto_over_input, helps]

@@ -8,7 +8,8 @@ from pathlib import Path
 TOOLS = Path(__file__).resolve().parents[1]
 TOP = TOOLS.parents[1]
 RECORDINGS = TOP / "demo/pipewire"
-CRATES = {"pipegraph": "pw_main", "pipegraph-pods": "pw_pods", "pipegraph-pictures": "pw_pictures"}
+CRATES = {"pipegraph": "pw_main", "pipegraph-pods": "pw_pods"}
+PICTURES = TOP / "tools/pictures/pipegraph-pictures"
 
 
 class Answer:
@@ -27,6 +28,7 @@ class Asking:
 
     def __init__(self, programs):
         self.programs = {name: find(programs, crate) for name, crate in CRATES.items()}
+        self.programs["pipegraph-pictures"] = PICTURES
         self.scratch = tempfile.TemporaryDirectory(prefix="pipegraph-test-")
         self.folder = Path(self.scratch.name)
         self.count = self.differences = 0
