@@ -15,7 +15,7 @@ def uses_of(checkout: Path) -> Uses:
 def below(uses: Uses, name: str) -> List[str]:
     """The crates below one, each after those that it uses."""
     found: List[str] = []
-    for use in uses[name]:
+    for use in uses.get(name, []):
         if use in uses:
             found += [it for it in [*below(uses, use), use] if it not in found]
     return found
