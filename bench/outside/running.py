@@ -36,17 +36,23 @@ def answer_of(asked):
 
 
 def run(groups, programs, part):
-    """Asks all groups, prints what each found, and answers 0 where there was no difference."""
-    failed = 0
+    """Asks all groups, prints what each found, and answers 0 where there was no difference.
+
+    A group that passed over a part of its questions and found no difference counts as skipped.
+    """
+    failed = skipped = 0
     with multiprocessing.get_context("fork").Pool(AT_ONCE, maxtasksperchild=1) as pool:
         asked = [(group, pool.apply_async(ask_group, (group, programs, part))) for group in groups]
         for group, asking in asked:
             count, differences, passed_over = answer_of(asking)
             failed += bool(differences)
+            skipped += bool(passed_over and not differences)
             print(f"{count:6} {title_of(group)}", flush=True)
             for difference in differences:
                 print(f"       {difference}", flush=True)
             for why in passed_over:
                 print(f"       passed over: {why}", flush=True)
-    print(f"{len(groups) - failed} passed, {failed} failed")
+    if skipped:
+        print(f"{skipped} skipped: a part of their questions was passed over")
+    print(f"{len(groups) - failed - skipped} passed, {failed} failed")
     return int(failed > 0)

@@ -27,7 +27,7 @@ class Asking:
     """The programs, a folder to work in, and the count of comparisons."""
 
     def __init__(self, programs):
-        self.programs = {name: find(programs, crate) for name, crate in CRATES.items()}
+        self.programs = {name: find(programs, name, crate) for name, crate in CRATES.items()}
         self.programs["pipegraph-pictures"] = PICTURES
         self.scratch = tempfile.TemporaryDirectory(prefix="pipegraph-test-")
         self.folder = Path(self.scratch.name)
@@ -62,12 +62,13 @@ class Asking:
         self.scratch.cleanup()
 
 
-def find(folder, crate):
-    """A built program, in the folder that is named or where `rt` leaves it."""
-    path = Path(folder) / crate if folder else TOP / "crates" / crate / "out" / crate
-    if not path.exists():
-        sys.exit(f"tools/pipewire/test: {path} is not there: ./install builds the programs")
-    return path.resolve()
+def find(folder, name, crate):
+    """A built program: in the folder that is named, by its own name or its crate's, or where `rt` leaves it."""
+    tried = [Path(folder) / crate, Path(folder) / name] if folder else [TOP / "crates" / crate / "out" / crate]
+    there = [path.resolve() for path in tried if path.is_file()]
+    if not there:
+        sys.exit(f"tools/pipewire/test: {tried[0]} is not there: ./install builds the programs")
+    return there[0]
 
 
 def recording(scene):

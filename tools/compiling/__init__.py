@@ -1,0 +1,1 @@
+"""Programs of this source without proofs: compiled by the kit's own compiler and LLVM, and where programs are found."""

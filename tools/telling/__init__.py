@@ -1,0 +1,1 @@
+"""How far a long command is, for people."""
