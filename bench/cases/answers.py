@@ -143,13 +143,14 @@ def ask(programs: dict, case: Case, way: list) -> list:
 
 
 def programs_in(folders: list, names: set) -> dict:
-    """The programs of these names in one of the folders, under their names or those of their crates."""
+    """The programs of these names: in the first of the folders that has one, under its own name, under that of its
+    crate, or where the repository has it.
+    """
     found = {}
     for name in sorted(names):
-        crate = PROGRAMS[name]
-        tried = [path for folder in folders for path in (
-            folder / name, folder / crate, folder / "crates" / crate / "out" / crate,
-            folder / "tools" / "pictures" / name)]
+        place = PROGRAMS[name]
+        crate = [Path(place).name] if place.startswith("crates/") else []
+        tried = [folder / path for folder in folders for path in (name, *crate, place)]
         there = [path for path in tried if path.is_file()]
         if not there:
             raise SystemExit(f"{tried[0]} is not there")

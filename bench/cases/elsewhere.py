@@ -4,13 +4,11 @@ TEXTS = "crates/command_tests/src/messages.rt"  # sentences of values that no ru
 
 # Numbers of docs/FORMATS.md.
 NUMBERS = {
-    "limit 3 AllWavBytes": ("bench/outside/causes.py", '"AllWavBytes"'),
     "status 9": ("bench/outside/statuses.py", "def memory("),
 }
 
 # Sentences.
 SENTENCES = {
-    "more than 536870912 bytes of WAV files in all": ("bench/outside/causes.py", "536870912 bytes of WAV files in all"),
     "the node has no such port": (TEXTS, "the node has no such port"),
     "a name, a port or a file word has the wrong form": (TEXTS, "a name, a port or a file word has the wrong form"),
     "a number is out of range, or has the wrong form": (TEXTS, "a number is out of range, or has the wrong form"),

@@ -24,7 +24,7 @@ from notation import told, wav
 from rows import Case, bytes_of
 
 FORMAT = 262147  # the object type of a format
-MOST = 3_000_000  # samples of all nodes, above which the model is not asked
+MOST = 3_000_000  # samples of all nodes, and bytes of a file, above which the model is not asked
 EVENT = re.compile(r"(?:begin|end) \d+|(?:start|finish) \d+ (\w+)|tick \d+(?: \w+)*")
 
 
@@ -48,6 +48,8 @@ def files_of(case: Case) -> dict:
 def known(files: dict, case: Case, name: str) -> Optional[bytes]:
     """The bytes of a file, None where it is not there."""
     if name.encode() in case.given and name not in files or "/" in name or name == "-":
+        raise NoOpinion
+    if len(files.get(name, b"")) > MOST:
         raise NoOpinion
     return files.get(name)
 

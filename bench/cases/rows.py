@@ -5,7 +5,9 @@ from typing import Optional, Union
 
 from notation import made, text, unescaped
 
-PROGRAMS = {"pipegraph": "pw_main", "pipegraph-pods": "pw_pods", "pipegraph-pictures": "pw_pictures"}
+# Each program, and where it is in the repository: built by the gate, or a script.
+PROGRAMS = {"pipegraph": "crates/pw_main/out/pw_main", "pipegraph-pods": "crates/pw_pods/out/pw_pods",
+            "pipegraph-pictures": "tools/pictures/pipegraph-pictures"}
 ORDER = ["case", "given", "$", ">", "!", "status", "left", "none"]
 ANY = "..."  # a line that stands for one line or more
 SPECIAL = re.compile(r"folder|zeros \d+")  # what is made on the disk only

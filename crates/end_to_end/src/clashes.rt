@@ -1,7 +1,7 @@
 //! What a call finds of two objects: how they clash, at which key, and whether they are formats.
 
 use crate::finding::found_in;
-use crate::offers::AT_48000;
+use crate::offered::AT_48000;
 use pw_lists::Memory;
 use pw_top::{Clash, What};
 use row_files::{FileRow, Held, SURE, files_of};

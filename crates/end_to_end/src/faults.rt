@@ -169,3 +169,20 @@ fn each_store_fails_after_each_byte(rt: HostRuntime) {
 fn the_put_fails_after_each_byte(rt: HostRuntime) {
     assert_eq!(rt; put_unlike(&rt, PUT), None);
 }
+
+/// A soak over files of which no call does what it should.
+const SOAK: Row<'static> = Row {
+    line: "soak 7",
+    faults: Faults {
+        load: 1,
+        store: (1, 0),
+        put: (0, 0),
+    },
+    text: b"soak 7 306 78336 -7763562 32768\n",
+    ..RUN
+};
+
+#[test]
+fn a_soak_loads_and_stores_nothing(rt: HostRuntime) {
+    assert!(rt; is_so(&rt, SOAK));
+}

@@ -2,7 +2,7 @@
 //! a refused link admit, each worked out by hand.
 
 use crate::finding::found_in;
-use crate::offers::{AT_44100, AT_48000};
+use crate::offered::{AT_44100, AT_48000};
 use pw_graph::{LineOutcome, LinkLine, Plan, PortId};
 use pw_lists::{Items, Memory, Text};
 use pw_top::What;
