@@ -5,19 +5,14 @@ from typing import Dict, List, Optional
 
 TOP = Path(__file__).resolve().parents[2]
 UNPROVED = "build/unproved"
-CRATES = {"pipegraph": "pw_main", "pipegraph-pods": "pw_pods", "pipegraph-pictures": "pw_pictures"}
+CRATES = {"pipegraph": "pw_main", "pipegraph-pods": "pw_pods"}
 TOOLS = {"pipegraph-pictures": "tools/pictures/pipegraph-pictures"}
+NAMES = [*CRATES, *TOOLS]
 
 
 def tool_of(name: str, top: Path = TOP) -> Optional[Path]:
     """The script that a program is, if it is one: nothing of it is compiled or proved."""
-    path = top / TOOLS[name] if name in TOOLS else None
-    return path if path and path.is_file() else None
-
-
-def compiled(top: Path = TOP) -> Dict[str, str]:
-    """The programs that are compiled, each with its crate."""
-    return {name: crate for name, crate in CRATES.items() if not tool_of(name, top)}
+    return top / TOOLS[name] if name in TOOLS else None
 
 
 def proved(name: str, top: Path = TOP) -> Path:
@@ -31,9 +26,9 @@ def unproved(name: str, top: Path = TOP) -> Path:
 
 
 def named_folder(name: str) -> List[Path]:
-    """The program of the folder that PIPEGRAPH_PROGRAMS names, under its own name or its crate's."""
+    """The program of the folder that PIPEGRAPH_PROGRAMS names, under its own name or its crate's; no script."""
     folder = os.environ.get("PIPEGRAPH_PROGRAMS")
-    return [Path(folder).resolve() / it for it in (name, CRATES[name])] if folder else []
+    return [Path(folder).resolve() / it for it in (name, CRATES[name])] if folder and name in CRATES else []
 
 
 def found(name: str, top: Path = TOP) -> Optional[Path]:

@@ -31,7 +31,7 @@ def scripts(name: str, top: Path) -> List[File]:
 def files(program: Callable[[str, Path], Path], top: Path) -> List[File]:
     """All files, with the programs that `program` names."""
     found: List[File] = []
-    for name in places.CRATES:
+    for name in places.NAMES:
         found += scripts(name, top) or [File(f"bin/{name}", program(name, top), 0o755)]
         found += [File(f"share/man/man1/{name}.1", top / f"docs/{name}.1", 0o644),
                   File(f"share/bash-completion/completions/{name}", top / f"completions/{name}.bash", 0o644),

@@ -11,13 +11,12 @@ from telling.costs import Estimate, Part, costs, in_words
 from telling.line import Line
 
 # The words of a run that does no harm, once a program is built.
-RUNS: Dict[str, List[str]] = {"pw_main": ["run", "/dev/null"], "pw_pictures": ["graph", "/dev/null"],
-                              "pw_pods": ["--help"]}
+RUNS: Dict[str, List[str]] = {"pw_main": ["run", "/dev/null"], "pw_pods": ["--help"]}
 
 
 def missing(top: Path) -> List[str]:
     """The crates of the programs that are not built."""
-    return [crate for name, crate in places.compiled(top).items() if not places.proved(name, top).is_file()]
+    return [crate for name, crate in places.CRATES.items() if not places.proved(name, top).is_file()]
 
 
 class Proving:
