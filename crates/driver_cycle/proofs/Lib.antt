@@ -2,3 +2,4 @@ pub mod LeadingLemmas
 pub mod RestLemmas
 pub mod SettlingLemmas
 pub mod ThreadLemmas
+pub mod CourseLemmas

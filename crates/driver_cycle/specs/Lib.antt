@@ -1,5 +1,6 @@
 pub mod Asking
 pub mod Concluding
+pub mod Courses
 pub mod Epochs
 pub mod Leading
 pub mod Rounds

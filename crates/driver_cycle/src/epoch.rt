@@ -11,6 +11,7 @@ ghost use Rattle.driver_cycle.specs.Rounds.{BeginsNext, HasLooked};
 ghost use Rattle.driver_cycle.specs.Settling.{HasSettled, AreEach};
 ghost use Rattle.driver_cycle.specs.Asking.{IsAskedBy};
 ghost use Rattle.driver_cycle.specs.Epochs.{IsThread, HasGoneOn, HasGoneRound};
+ghost use Rattle.driver_cycle.specs.Courses.{stand, HasMadeRound, HasMadeCycle, HaveMadeCycles, HasMadeAll};
 ghost use Rattle.driver_cycle.specs.Waking.{SendsBegun};
 ghost use Rattle.driver_cycle.specs.working.Resting.{EndsRound};
 
@@ -45,6 +46,9 @@ fn go_round<R: Wait, G: Gate, K: Ticker>(
     ensures round { HasGoneRound result (layout at.now.board.now) seat.old.knows checked.new
         seat.new.knows }
     ensures asked { IsAskedBy K.answers result checked.old ticker.old ticker.new }
+    ensures made { HasMadeRound K.ticks K.answers (layout at.now.board.now) at.now.ways.now result
+        (stand seat.old own.old adopted.old way.old ticker.old)
+        (stand seat.new own.new adopted.new way.new ticker.new) }
     // The thread rests only where nothing was done, and then where another thread has a loop.
     ensures rest { EndsRound result (layout at.now.board.now) at.now.ways.now.loops own.old
         adopted.old adopted.new way.old way.new }
@@ -75,6 +79,9 @@ fn run_cycle<R: Wait, G: Gate, K: Ticker>(
         seat.new own.new adopted.new (K.ticks ticker.new) }
     ensures between { IsBetween (layout at.now.board.now) seat.new.knows }
     ensures cycle { seat.new.knows.lead.cycle ≡ seat.old.knows.lead.cycle + 1 }
+    ensures rounds { HasMadeCycle K.ticks K.answers (layout at.now.board.now) at.now.ways.now
+        (stand seat.old own.old adopted.old way.old ticker.old)
+        (stand seat.new own.new adopted.new way.new ticker.new) }
     ensures way { IsDriverWay at.now.ways.now way.new }
 {
     let mut checked = false;
@@ -121,6 +128,9 @@ fn run_cycles<R: Wait, G: Gate, K: Ticker>(
     ensures gone { HasGoneOn at.now.board.now seat.old own.old adopted.old (K.ticks ticker.old)
         seat.new own.new adopted.new (K.ticks ticker.new) }
     ensures ended { HasEndedAll (layout at.now.board.now) seat.new.knows }
+    ensures cycles { HaveMadeCycles K.ticks K.answers (layout at.now.board.now) at.now.ways.now
+        (stand seat.old own.old adopted.old way.old ticker.old)
+        (stand seat.new own.new adopted.new way.new ticker.new) }
     ensures way { IsDriverWay at.now.ways.now way.new }
 {
     while begin_sent(at, seat, way) {
@@ -167,6 +177,9 @@ pub fn run_epoch<R: Wait, G: Gate, K: Ticker>(
     ensures adopted { AreEach (HasSettled (layout board.now) (table_of board.now))
         adopted.old adopted.new }
     ensures looked { HasLooked seat.old seat.new (K.ticks ticker.old) (K.ticks ticker.new) }
+    ensures made { HasMadeAll K.ticks K.answers board.now ways.now
+        (stand seat.old own.old adopted.old way.old ticker.old)
+        (stand seat.new own.new adopted.new way.new ticker.new) }
     ensures way { IsDriverWay ways.now way.new }
 {
     let at = Site {

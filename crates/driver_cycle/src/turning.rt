@@ -1,9 +1,10 @@
 //! Turns of the loops of the driver's thread, after which what they woke is sent.
-ghost use Rattle.std.specs.Prelude.{◌≡◌, All, true, false};
+ghost use Rattle.std.specs.Prelude.{◌≡◌, All, length, true, false};
 ghost use Rattle.board_rule.specs.OnBoard.{layout, table_of};
 ghost use Rattle.data_loop.specs.LoopWay.{IsDriverWay};
 ghost use Rattle.data_loop.specs.LoopsOnBoards.{IsOnBoard};
 ghost use Rattle.driver_cycle.specs.Settling.{HasHadTurns, AreEach};
+ghost use Rattle.driver_cycle.specs.Courses.{HaveTakenTurns};
 ghost use Rattle.driver_cycle.specs.Waking.{HasTakenTurn, HasTurnedIdle};
 ghost use Rattle.driver_cycle.specs.working.Resting.{HasNotRested, HasOneRan};
 
@@ -59,6 +60,8 @@ pub(crate) fn turn_all<R: Wait, G: Gate>(
         → AreEach (HasTurnedIdle (layout at.now.board.now)) states.old states.new }
     ensures ran { result ≡ true → HasOneRan (layout at.now.board.now) states.old states.new }
     ensures quiet { result ≡ false → way.new ≡ way.old }
+    ensures took { HaveTakenTurns (layout at.now.board.now) at.now.ways.now states.old states.new
+        way.old (length states.old) way.new }
     ensures still { HasNotRested way.old way.new }
     ensures way { IsDriverWay at.now.ways.now way.new }
 {

@@ -1,5 +1,8 @@
-use Rattle.std.proofs.Common.{refl}
+use Rattle.std.proofs.Common.{◌||◌, Bool, refl, length, subst}
+use Rattle.std.proofs.lemmas.Bool.{cases_lt}
 use Rattle.board_rule.specs.OnBoard.{layout, table_of}
+use Rattle.driver_cycle.specs.Asking.{IsAskedBy}
+use Rattle.driver_cycle.proofs.CourseLemmas.{ends_way}
 use Rattle.driver_cycle.proofs.RestLemmas.{ends_round}
 use Rattle.driver_cycle.proofs.ThreadLemmas.{led_so_far_same, gone_round}
 use Rattle.driver_cycle.proofs.epoch.go_round.Goals as goal
@@ -21,3 +24,24 @@ returns-clause-rest g c = let all = c.turn_all-another_ran.ensures in let e = c.
     c.turn_all-another_ran.new.states c.args.way.now c.turn_one-own_ran.new.way c.turn_all-another_ran.new.way c.rest_unless.new.way
     c.turn_one-own_ran.result c.turn_all-another_ran.result c.lead_once-ended.result c.turn_one-own_ran.ensures.took all.ran all.idle all.quiet all.still
     e.rested e.done e.alone
+
+pub returns-clause-made : goal.returns-clause-made
+returns-clause-made g c = let all = c.turn_all-another_ran.ensures in let e = c.rest_unless.ensures in record {
+  own_ran = c.turn_one-own_ran.result;
+  turned = c.turn_one-own_ran.new.state;
+  sent = c.turn_one-own_ran.new.way;
+  own = c.turn_one-own_ran.ensures.took;
+  after = c.turn_all-another_ran.new.way;
+  adopted = all.took;
+  claimed = c.lead_once-ended.ensures.claimed;
+  asked = subst (λ (x : Bool). IsAskedBy g.K.Ticker.answers c.lead_once-ended.result x c.args.ticker.now c.lead_once-ended.new.ticker)
+      c.requires.checked c.lead_once-ended.ensures.asked;
+  driving = c.lead_once-ended.ensures.driving;
+  rest = ends_round (layout c.args.at.now.board.now) c.args.at.now.ways.now c.args.own.now c.turn_one-own_ran.new.state c.args.adopted.now
+      c.turn_all-another_ran.new.states c.args.way.now c.turn_one-own_ran.new.way c.turn_all-another_ran.new.way c.rest_unless.new.way
+      c.turn_one-own_ran.result c.turn_all-another_ran.result c.lead_once-ended.result c.turn_one-own_ran.ensures.took all.ran all.idle all.quiet all.still
+      e.rested e.done e.alone;
+  last = ends_way (length c.turn_all-another_ran.new.states) c.args.at.now.ways.now.loops c.turn_all-another_ran.new.way c.rest_unless.new.way
+      ((c.turn_one-own_ran.result || c.turn_all-another_ran.result) || c.lead_once-ended.result) e.rested e.done e.alone
+      (cases_lt (length c.turn_all-another_ran.new.states) c.args.at.now.ways.now.loops);
+}

@@ -1,9 +1,10 @@
-use Rattle.std.proofs.Common.{ℕ, List, true≢false, refl, sym, ◌∙◌, subst}
+use Rattle.std.proofs.Common.{ℕ, suc, true, List, true≢false, refl, sym, ◌∙◌, subst}
 use Rattle.board_rule.specs.OnBoard.{layout}
 use Rattle.board_rule.specs.Known.{Known}
 use Rattle.data_loop.specs.declared.loop_state.LoopState.{LoopState}
 use Rattle.data_loop.specs.LoopWay.{IsDriverWay}
 use Rattle.driver_cycle.specs.Leading.{IsBetween}
+use Rattle.driver_cycle.specs.Courses.{HasMadeRound}
 use Rattle.driver_cycle.specs.Epochs.{HasGoneOn}
 use Rattle.driver_cycle.proofs.ThreadLemmas.{no_round, more_rounds}
 use Rattle.driver_cycle.proofs.epoch.run_cycle.Goals.{in-None, in-Some+then-go_round}
@@ -17,6 +18,7 @@ loop-init g c = record {
   waits = c.requires.waits;
   cycle = refl;
   checked = sym c.requires.unchecked;
+  rounds = (0, refl);
   way = c.requires.way;
 }
 
@@ -30,6 +32,14 @@ loop-preserved g c = let r = c.if-go_round.ensures.round in record {
   waits = r.0;
   cycle = r.1 ∙ c.loop.invariant.cycle;
   checked = r.2;
+  rounds = (
+    suc c.loop.invariant.rounds.0,
+    (
+      record { seat = c.loop.seat; own = c.loop.own; adopted = c.loop.adopted; way = c.loop.way; ticker = c.loop.ticker },
+      c.loop.invariant.rounds.1,
+      c.if-go_round.ensures.made,
+    ),
+  );
   way = c.go_round.ensures.way;
 }
 
@@ -55,4 +65,17 @@ pub returns-clause-way : goal.returns-clause-way
 returns-clause-way g c = elim c.match-next.branch [
   | in-None w ↦ absurd (true≢false (sym w.in-None.ensures.steps))
   | in-Some+then-go_round w ↦ subst (IsDriverWay c.args.at.now.ways.now) (sym w.way'-is) w.go_round.ensures.way
+]
+
+pub returns-clause-rounds : goal.returns-clause-rounds
+returns-clause-rounds g c = elim c.match-next.branch [
+  | in-None w ↦ absurd (true≢false (sym w.in-None.ensures.steps))
+  | in-Some+then-go_round w ↦ record {
+    before = record { seat = c.loop.seat; own = c.loop.own; adopted = c.loop.adopted; way = c.loop.way; ticker = c.loop.ticker };
+    rounds = c.loop.invariant.rounds;
+    last = subst (HasMadeRound g.K.Ticker.ticks g.K.Ticker.answers (layout c.args.at.now.board.now) c.args.at.now.ways.now true
+        record { seat = c.loop.seat; own = c.loop.own; adopted = c.loop.adopted; way = c.loop.way; ticker = c.loop.ticker })
+        (λ i. record { seat = sym w.seat-is i; own = sym w.own-is i; adopted = sym w.adopted-is i; way = sym w.way'-is i; ticker = sym w.ticker-is i })
+        w.if-go_round.ensures.made;
+  }
 ]

@@ -1,4 +1,4 @@
-use Rattle.std.proofs.Common.{sym, ◌∙◌}
+use Rattle.std.proofs.Common.{refl, sym, ◌∙◌}
 use Rattle.board_rule.specs.OnBoard.{layout, table_of}
 use Rattle.driver_cycle.specs.Epochs.{IsThread, HasGoneOn}
 use Rattle.driver_cycle.specs.Leading.{IsLeading}
@@ -23,5 +23,14 @@ returns g c = let b = c.args.board.now in let p = layout b in let t = table_of b
       adopted = each_settled p t c.args.adopted.now c.run_cycles.new.adopted c.settle_all.new.states c.requires.adopted gone.turned
           c.settle_all.ensures.settled;
       looked = gone.looked;
+      made = record {
+        last = record { seat = u; own = mid; adopted = c.run_cycles.new.adopted; way = c.run_cycles.new.way; ticker = c.run_cycles.new.ticker };
+        cycles = c.run_cycles.ensures.cycles;
+        seat = refl;
+        own = settled;
+        adopted = c.settle_all.ensures.settled;
+        way = refl;
+        ticker = refl;
+      };
       way = c.run_cycles.ensures.way;
     }

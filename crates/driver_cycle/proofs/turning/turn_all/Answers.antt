@@ -8,6 +8,7 @@ use Rattle.driver_cycle.specs.Waking.{HasTakenTurn, HasTurnedIdle}
 use Rattle.driver_cycle.proofs.SettlingLemmas.{one_more, all_below}
 use Rattle.driver_cycle.specs.working.Resting.{HasTurnedRan}
 use Rattle.driver_cycle.proofs.ThreadLemmas.{neither}
+use Rattle.driver_cycle.proofs.CourseLemmas.{taken_on, taken_to}
 use Rattle.driver_cycle.proofs.RestLemmas.{HasOneRanBelow, turn_still, turn_ran, either, kept_ran, new_ran, one_ran}
 use Rattle.driver_cycle.proofs.turning.turn_all.Goals as goal
 
@@ -40,6 +41,10 @@ loop-k-preserved g c = let p = layout c.args.at.now.board.now in let t = table_o
           (λ d. subst (λ (x : LoopState). HasTurnedRan p x now) (was d)
           (turn_ran p c.args.at.now.ways.now here c.loop-k.way now c.turn_one-ran.new.way c.turn_one-ran.result here_ran c.turn_one-ran.ensures.took)));
       quiet = λ e. let none = neither c.loop-k.ran c.turn_one-ran.result e in (idle none.1).2 ∙ c.loop-k.invariant.quiet none.0;
+      took = taken_on p c.args.at.now.ways.now c.args.states.now c.loop-k.states now c.args.way.now c.loop-k.way c.turn_one-ran.new.way k
+          c.turn_one-ran.result inside c.loop-k.invariant.took
+          (λ d. subst (λ (x : LoopState). HasTakenTurn c.turn_one-ran.result p c.args.at.now.ways.now x c.loop-k.way now c.turn_one-ran.new.way) (was d)
+          c.turn_one-ran.ensures.took);
       still = turn_still p c.args.at.now.ways.now here c.loop-k.way now c.turn_one-ran.new.way c.turn_one-ran.result c.turn_one-ran.ensures.took
           ∙ c.loop-k.invariant.still;
       way = c.turn_one-ran.ensures.way;
@@ -52,3 +57,8 @@ returns-clause-idle g c = let past = c.loop-k-test.false in let end = c.loop-k.i
 
 pub returns-clause-ran : goal.returns-clause-ran
 returns-clause-ran g c = λ e. one_ran (layout c.args.at.now.board.now) c.loop-k.k c.args.states.now c.loop-k.states (c.loop-k.invariant.ran e)
+
+pub returns-clause-took : goal.returns-clause-took
+returns-clause-took g c = let past = c.loop-k-test.false in let end = c.loop-k.invariant.end in let low = c.loop-k.auto in
+    taken_to (layout c.args.at.now.board.now) c.args.at.now.ways.now c.args.states.now c.loop-k.states c.args.way.now c.loop-k.way c.loop-k.k
+    (length c.args.states.now) (omega arith) c.loop-k.invariant.took
