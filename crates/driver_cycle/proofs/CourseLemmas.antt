@@ -5,7 +5,7 @@ use Rattle.board_rule.specs.Layout.{BoardLayout}
 use Rattle.ready_queues.specs.declared.way.Way.{Way}
 use Rattle.ready_queues.specs.declared.ways.Ways.{Ways}
 use Rattle.data_loop.specs.declared.loop_state.LoopState.{LoopState}
-use Rattle.driver_cycle.specs.Courses.{HaveTakenTurns}
+use Rattle.driver_cycle.specs.Stands.{HaveTakenTurns}
 use Rattle.driver_cycle.specs.Waking.{HasTakenTurn, HasRested}
 
 module _ (p : BoardLayout) (ways : Ways) (old now : List LoopState) where

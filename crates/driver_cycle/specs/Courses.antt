@@ -1,10 +1,9 @@
 -- The rounds of the driver's thread on the board of an epoch, one after the other: what was done in
 -- each, and whom it asked.
--- Source: PipeWire's documentation, "Graph Scheduling" and "Data loops"; that a thread has several
--- loops, and that a ticker says when a check is due, is this project's own.
-use Rattle.std.specs.Prelude.{◌≡◌, ◌⊎◌, ℕ, zero, suc, Bool, true, false, not, List, length, slice_index_or}
+-- Source: PipeWire's documentation, "Graph Scheduling" and "Data loops"; that a ticker says when a
+-- check is due is this project's own.
+use Rattle.std.specs.Prelude.{◌≡◌, ◌⊎◌, ℕ, Bool, true, false, not, length}
 use Rattle.board_rule.specs.declared.board.Board.{Board}
-use Rattle.board_rule.specs.Known.{Known}
 use Rattle.board_rule.specs.Layout.{BoardLayout}
 use Rattle.board_rule.specs.OnBoard.{layout, table_of}
 use Rattle.ready_queues.specs.declared.way.Way.{Way}
@@ -15,34 +14,9 @@ use Rattle.driver_cycle.specs.Concluding.{IsClaimed}
 use Rattle.driver_cycle.specs.Leading.{IsDriving}
 use Rattle.driver_cycle.specs.Rounds.{BeginsNext}
 use Rattle.driver_cycle.specs.Settling.{HasSettled, AreEach}
+use Rattle.driver_cycle.specs.Stands.{AreInTurn, Stand, HaveTakenTurns}
 use Rattle.driver_cycle.specs.Waking.{HasTakenTurn, HasRested, SendsBegun}
 use Rattle.driver_cycle.specs.working.Resting.{EndsRound}
-
--- from a to b by k of these, one after the other
-abbrev pub AreInTurn : {A : Type 0} → (A → A → Type 0) → ℕ → A → A → Type 0
-AreInTurn R zero a b = b ≡ a
-AreInTurn {A} R (suc k) a b = (m : A) × AreInTurn R k a m × R m b
-
--- THE THREAD between two rounds: its seat, its loops, its way, and the ticker that it asks
-pub record Stand (K : Type 0) : Type 0 where
-  pub seat : Known
-  pub own : LoopState
-  pub adopted : List LoopState
-  pub way : Way
-  pub ticker : K
-
-abbrev pub stand : {K : Type 0} → Known → LoopState → List LoopState → Way → K → Stand K
-stand s own adopted way ticker = record { seat = s; own = own; adopted = adopted; way = way; ticker = ticker }
-
--- of these loops those before k had one turn each, in order, and what each turn woke was sent; the
--- way went from a to b
-abbrev pub HaveTakenTurns : BoardLayout → Ways → List LoopState → List LoopState → Way → ℕ → Way
-    → Type 0
-HaveTakenTurns p ways old new a zero b = b ≡ a
-HaveTakenTurns p ways old new a (suc k) b = (ran : Bool) × (way : Way)
-    × HaveTakenTurns p ways old new a k way
-    × ((d : LoopState) → HasTakenTurn ran p ways (slice_index_or old k d) way
-    (slice_index_or new k d) b)
 
 -- of a ticker with these ticks and answers, on a board with these queues
 module _ {K : Type 0} (ticks : K → ℕ) (answers : K → Bool → K → Type 0) (p : BoardLayout)

@@ -5,5 +5,6 @@ pub mod Epochs
 pub mod Leading
 pub mod Rounds
 pub mod Settling
+pub mod Stands
 pub mod Waking
 pub mod working

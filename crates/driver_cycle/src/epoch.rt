@@ -11,7 +11,8 @@ ghost use Rattle.driver_cycle.specs.Rounds.{BeginsNext, HasLooked};
 ghost use Rattle.driver_cycle.specs.Settling.{HasSettled, AreEach};
 ghost use Rattle.driver_cycle.specs.Asking.{IsAskedBy};
 ghost use Rattle.driver_cycle.specs.Epochs.{IsThread, HasGoneOn, HasGoneRound};
-ghost use Rattle.driver_cycle.specs.Courses.{stand, HasMadeRound, HasMadeCycle, HaveMadeCycles, HasMadeAll};
+ghost use Rattle.driver_cycle.specs.Courses.{HasMadeRound, HasMadeCycle, HaveMadeCycles, HasMadeAll};
+ghost use Rattle.driver_cycle.specs.Stands.{stand};
 ghost use Rattle.driver_cycle.specs.Waking.{SendsBegun};
 ghost use Rattle.driver_cycle.specs.working.Resting.{EndsRound};
 

@@ -4,7 +4,7 @@ ghost use Rattle.board_rule.specs.OnBoard.{layout, table_of};
 ghost use Rattle.data_loop.specs.LoopWay.{IsDriverWay};
 ghost use Rattle.data_loop.specs.LoopsOnBoards.{IsOnBoard};
 ghost use Rattle.driver_cycle.specs.Settling.{HasHadTurns, AreEach};
-ghost use Rattle.driver_cycle.specs.Courses.{HaveTakenTurns};
+ghost use Rattle.driver_cycle.specs.Stands.{HaveTakenTurns};
 ghost use Rattle.driver_cycle.specs.Waking.{HasTakenTurn, HasTurnedIdle};
 ghost use Rattle.driver_cycle.specs.working.Resting.{HasNotRested, HasOneRan};
 

@@ -2,7 +2,7 @@ use Rattle.std.proofs.Common.{◌≡◌, length, true, false}
 use Rattle.board_rule.specs.OnBoard.{layout, table_of}
 use Rattle.data_loop.specs.LoopWay.{IsDriverWay}
 use Rattle.driver_cycle.specs.Settling.{HasHadTurns, AreEachBelow}
-use Rattle.driver_cycle.specs.Courses.{HaveTakenTurns}
+use Rattle.driver_cycle.specs.Stands.{HaveTakenTurns}
 use Rattle.driver_cycle.specs.Waking.{HasTurnedIdle}
 use Rattle.driver_cycle.specs.working.Resting.{HasNotRested}
 use Rattle.driver_cycle.proofs.RestLemmas.{HasOneRanBelow}
