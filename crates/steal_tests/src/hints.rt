@@ -80,6 +80,26 @@ const FAN: HintRow<'static> = HintRow {
     },
 };
 
+/// Two squares, two gains behind each, and the sink that drives, for three cycles. Both squares have
+/// signs. The step of each wakes its gains, of which one is kept and one gets a sign; by that the
+/// sign of the other square is not lost.
+const TWO_SQUARES: HintRow<'static> = HintRow {
+    work: WorkRow {
+        text: "quantum 2\nsquare s 48000 1 4 100\nsquare t 48000 1 4 100\ngain a 64\ngain b 64\n\
+            gain c 64\ngain d 64\nsink o o.wav\ndriver o 1\nlink s.out a.in\nlink t.out b.in\n\
+            link s.out c.in\nlink t.out d.in\nlink a.out o.in\nlink b.out o.in\nlink c.out o.in\n\
+            link d.out o.in\ncycles 3\n",
+        channels: 0,
+        samples: &[],
+    },
+    hints: HintCounts {
+        kept: 6,
+        given: 0,
+        signed: 12,
+        scanned: 0,
+    },
+};
+
 /// Sixty squares and the sink that drives, for two cycles. The beginning of a cycle sets the signs
 /// of all squares, and their steps wake nothing but the sink.
 const SIXTY: HintRow<'static> = HintRow {
@@ -175,7 +195,7 @@ fn row_is_found<R: Threads + Wait + Sync>(
 
 // The first row whose steps are found otherwise by these workers.
 fn first_unlike<R: Threads + Wait + Sync>(rt: &R, alloc: Global, adopt: &[bool]) -> Option<usize> {
-    let rows = [CHAIN, TWO_EPOCHS, FAN, SIXTY];
+    let rows = [CHAIN, TWO_EPOCHS, FAN, TWO_SQUARES, SIXTY];
     for at in 0..rows.len() {
         if !row_is_found(rt, alloc, &rows[at], adopt) {
             return Some(at);

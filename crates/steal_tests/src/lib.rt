@@ -5,6 +5,8 @@
 #[cfg(test)]
 mod hints;
 #[cfg(test)]
+mod many_cells;
+#[cfg(test)]
 mod meeting;
 #[cfg(test)]
 mod runs;

@@ -150,8 +150,8 @@ fn all_go_refused<R: Threads + Wait + Sync>(
     true
 }
 
-// Whether the runs of a row go so.
-fn row_goes<R: Threads + Wait + Sync>(rt: &R, alloc: Global, row: &RunRow<'_>) -> bool {
+/// Whether the runs of a row go so.
+pub(crate) fn row_goes<R: Threads + Wait + Sync>(rt: &R, alloc: Global, row: &RunRow<'_>) -> bool {
     match work_of(alloc, row.work) {
         Some(work) => all_go(rt, alloc, &work, row),
         None => false,
