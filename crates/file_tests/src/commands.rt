@@ -1,25 +1,13 @@
 //! The table of commands: their words and their parameters.
 use graph_script::{Counted, Form, Name, label_word, name_called, names, params_of, word_of};
 
-// The first command that is not the one that its word calls.
-fn first_uncalled() -> Option<Name> {
-    for name in names() {
-        if name_called(word_of(*name)) != Some(*name) {
-            return Some(*name);
-        }
-    }
-    None
-}
-
 #[test]
-fn each_command_is_called_by_its_word(rt: HostRuntime) {
+fn each_command_is_called_by_its_word_and_by_no_other(rt: HostRuntime) {
     assert_eq!(rt; names().len(), 21);
-    assert_eq!(rt; first_uncalled(), None);
+    for name in names() {
+        assert_eq!(rt; name_called(word_of(*name)), Some(*name));
+    }
     assert_eq!(rt; word_of(Name::Mix2), b"mix2".as_slice());
-}
-
-#[test]
-fn no_other_word_calls_a_command(rt: HostRuntime) {
     for word in [b"".as_slice(), b"mix", b"mix22", b"Gain", b"gain "] {
         assert_eq!(rt; name_called(word), None, "{word:?}");
     }

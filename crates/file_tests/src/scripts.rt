@@ -27,19 +27,14 @@ fn fault_of(alloc: Global, text: &[u8]) -> (u32, u8, u8) {
     }
 }
 
-// The number of lines that say a command, and of the last of them.
-fn counted(lines: &[Line]) -> (usize, u32) {
-    match lines {
-        [] => (0, 0),
-        [.., last] => (lines.len(), last.line),
-    }
-}
-
-// The same of the lines of a script; 0 and 0 where there is a fault.
+// The number of lines that say a command, and of the last of them; 0 and 0 where there is a fault.
 fn counts(alloc: Global, text: &[u8]) -> (usize, u32) {
-    match parsed(alloc, text) {
-        Ok(script) => counted(script.lines.as_slice()),
-        Err(_fault) => (0, 0),
+    let Ok(script) = parsed(alloc, text) else {
+        return (0, 0);
+    };
+    match script.lines.as_slice() {
+        [] => (0, 0),
+        [.., last] => (script.lines.len(), last.line),
     }
 }
 
@@ -119,64 +114,37 @@ fn told_link(place: i64, from: PortId, to: PortId) -> [i64; 6] {
     ]
 }
 
-// The place of the first line that says another command than wanted.
-fn first_unlike(lines: &[Line], wanted: &[[i64; 6]]) -> Option<usize> {
-    for (place, (line, want)) in lines.iter().zip(wanted).enumerate() {
-        if told(&line.command) != *want {
-            return Some(place);
-        }
-    }
-    if lines.len() == wanted.len() {
-        None
-    } else {
-        Some(lines.len())
-    }
-}
+// A script of five lines.
+const SHORT: &'static [u8] =
+    b"quantum 2\nsource s s.wav\nsink o -a.wav\nlink s.out o.in\ncycles 1000000";
 
-// The file of a source or a sink, else nothing.
-fn file_of(command: &Command) -> &[u8] {
-    match command {
-        Command::Source { file, .. } => file.as_slice(),
-        Command::Sink { file, .. } => file.as_slice(),
-        _ => &[],
-    }
-}
-
-// Whether the commands are on the first lines.
-fn are_first(lines: &[Line]) -> bool {
-    for (place, line) in lines.iter().enumerate() {
-        if line.line as usize != place + 1 {
-            return false;
-        }
-    }
-    true
-}
+const OF_SHORT: [[i64; 6]; 5] = [
+    [0, 2, 0, 0, 0, 0],
+    [1, 0, 0, 0, 0, 0],
+    [8, 1, 0, 0, 0, 0],
+    [14, 0, 0, 1, 0, 0],
+    [19, 1000000, 0, 0, 0, 0],
+];
 
 #[test]
-fn the_first_path_is_read(rt: HostRuntime) {
-    let text = b"quantum 2\nsource s s.wav\nsink o -a.wav\nlink s.out o.in\ncycles 1000000";
-    let Ok(script) = parsed(rt.alloc(), text) else {
+fn the_first_path_has_its_names_and_files(rt: HostRuntime) {
+    let Ok(script) = parsed(rt.alloc(), SHORT) else {
         panic!(rt; "it is a script");
     };
     let [s, o] = script.names().as_slice() else {
         panic!(rt; "it has two nodes");
     };
     assert!(rt; s.as_slice() == b"s".as_slice() && o.as_slice() == b"o".as_slice());
-    let wanted = [
-        [0, 2, 0, 0, 0, 0],
-        [1, 0, 0, 0, 0, 0],
-        [8, 1, 0, 0, 0, 0],
-        [14, 0, 0, 1, 0, 0],
-        [19, 1000000, 0, 0, 0, 0],
-    ];
-    let lines = script.lines.as_slice();
-    assert_eq!(rt; first_unlike(lines, wanted.as_slice()), None);
-    assert!(rt; are_first(lines));
-    let [_quantum, source, sink, ..] = lines else {
+    let [_quantum, source, sink, ..] = script.lines.as_slice() else {
         panic!(rt; "it has five lines");
     };
-    assert!(rt; file_of(&source.command) == b"s.wav".as_slice());
-    assert!(rt; file_of(&sink.command) == b"-a.wav".as_slice());
+    let (Command::Source { file: from, .. }, Command::Sink { file: to, .. }) = (
+        &source.command,
+        &sink.command,
+    ) else {
+        panic!(rt; "they are a source and a sink");
+    };
+    assert!(rt; from.as_slice() == b"s.wav".as_slice() && to.as_slice() == b"-a.wav".as_slice());
 }
 
 // Every command, in the order of its places.
@@ -204,38 +172,33 @@ const EVERY: [[i64; 6]; 21] = [
     [20, 0, 0, 0, 0, 0],
 ];
 
-// The list of a map, else nothing.
-fn list_of(command: &Command) -> &[u32] {
-    match command {
-        Command::Map { list, .. } => list.as_slice(),
-        _ => &[],
-    }
-}
-
-// Whether lines say every command, and the map its list.
-fn say_every(lines: &[Line]) -> bool {
-    first_unlike(lines, EVERY.as_slice()) == None
-        && match lines.get(6) {
-            Some(map) => list_of(&map.command) == [1, 0, 1].as_slice(),
-            None => false,
-        }
-}
+const EVERY_TEXT: &'static [u8] =
+    b"quantum 8192\nsource s s.wav\nsquare q 384000 8 1000000 32767\ngain g -32767\n\
+    mix2 m 32767 -1\ndelay d 65536\nmap p 2 1,0,1\nsplit t\nsink o o.wav\nmeter l\n\
+    driver o 1000000\nloop g 15\noffer g in f.pod\nbuffers m out 8\nlink m.out d.in\n\
+    unlink t.right m.b\non g\noff g\nasync g\ncycles 1000000\ndrain";
 
 #[test]
 fn every_command_is_read(rt: HostRuntime) {
-    let text = b"quantum 8192\nsource s s.wav\nsquare q 384000 8 1000000 32767\ngain g -32767\n\
-        mix2 m 32767 -1\ndelay d 65536\nmap p 2 1,0,1\nsplit t\nsink o o.wav\nmeter l\n\
-        driver o 1000000\nloop g 15\noffer g in f.pod\nbuffers m out 8\nlink m.out d.in\n\
-        unlink t.right m.b\non g\noff g\nasync g\ncycles 1000000\ndrain";
-    let Ok(script) = parsed(rt.alloc(), text.as_slice()) else {
-        panic!(rt; "it is a script");
-    };
-    assert!(rt; say_every(script.lines.as_slice()));
+    // A text, and what its lines say, from the first on.
+    for (text, wanted) in [(SHORT, OF_SHORT.as_slice()), (EVERY_TEXT, EVERY.as_slice())] {
+        let Ok(script) = parsed(rt.alloc(), text) else {
+            panic!(rt; "{text:?} is a script");
+        };
+        assert_eq!(rt; script.lines.len(), wanted.len());
+        for (place, (line, want)) in script.lines.as_slice().iter().zip(wanted).enumerate() {
+            assert_eq!(rt; told(&line.command), *want, "at {place} of {text:?}");
+            assert_eq!(rt; line.line as usize, place + 1, "of {text:?}");
+            if let Command::Map { list, .. } = &line.command {
+                assert_eq!(rt; list.as_slice(), [1, 0, 1].as_slice());
+            }
+        }
+    }
 }
 
 #[test]
 fn lines_keep_their_numbers(rt: HostRuntime) {
-    let alloc = rt.alloc();
+    // A text, the number of its commands and the line of the last.
     let good = [
         (b"".as_slice(), 0, 0),
         (b"\n\n", 0, 0),
@@ -250,7 +213,7 @@ fn lines_keep_their_numbers(rt: HostRuntime) {
         ),
     ];
     for (text, lines, last) in good {
-        assert_eq!(rt; counts(alloc, text), (lines, last), "{text:?}");
+        assert_eq!(rt; counts(rt.alloc(), text), (lines, last), "{text:?}");
     }
 }
 
@@ -321,99 +284,102 @@ const BAD: [(&'static [u8], u32, u8); 57] = [
     (b"gain a 1\n\n#\nplay\ngain A 1", 4, 2),
 ];
 
-// The place of the first text that has another fault.
-fn first_other(alloc: Global, rows: &[(&[u8], u32, u8)]) -> Option<usize> {
-    for (place, (text, line, why)) in rows.iter().enumerate() {
-        if fault_of(alloc, text) != (*line, *why, 0) {
-            return Some(place);
-        }
-    }
-    None
-}
-
-// The same of all those texts.
-fn first_of_bad(alloc: Global) -> Option<usize> {
-    first_other(alloc, BAD.as_slice())
-}
-
 #[test]
 fn each_faulty_text_is_refused_by_its_cause(rt: HostRuntime) {
-    assert_eq!(rt; first_of_bad(rt.alloc()), None);
-}
-
-// 63 nodes n0 to n62, a line each.
-fn full(alloc: Global) -> Result<Text, Memory> {
-    let mut text = Items::new(alloc);
-    for i in 0..63 {
-        text.extend(b"split n")?;
-        append_decimal(&mut text, i)?;
-        text.extend(b"\n")?;
+    for (text, line, why) in BAD.as_slice() {
+        assert_eq!(rt; fault_of(rt.alloc(), text), (*line, *why, 0), "{text:?}");
     }
-    Ok(text)
 }
 
-// 1,024 lines that make an epoch.
-fn long(alloc: Global) -> Result<Text, Memory> {
-    let mut text = Items::new(alloc);
-    for _ in 0..512 {
-        text.extend(b"cycles 1\ndrain\n")?;
-    }
-    Ok(text)
-}
-
-// A source with a file word of `bytes` bytes.
-fn named(alloc: Global, bytes: usize) -> Result<Text, Memory> {
-    let mut text = Items::from_slice(alloc, b"source s ")?;
-    text.extend_filled(bytes, b'a')?;
-    Ok(text)
-}
-
-// What some lines and some words after them are counted as, and at fault for.
-fn longer(
+// A front, and some words `often` times, as lines with a number each where they are numbered.
+fn repeated(
     alloc: Global,
-    lines: &[u8],
-    more: &[u8],
-) -> Result<((usize, u32), (u32, u8, u8)), Memory> {
-    let mut text = Items::from_slice(alloc, lines)?;
-    text.extend(more)?;
-    Ok((
-        counts(alloc, text.as_slice()),
-        fault_of(alloc, text.as_slice()),
-    ))
-}
-
-#[test]
-fn a_node_too_many_comes_last(rt: HostRuntime) -> Result<(), Fail> {
-    let nodes = full(rt.alloc())?;
-    for (more, counted, fault) in [
-        (b"".as_slice(), (63, 63), (0, 0, 0)),
-        (b"split n0".as_slice(), (0, 0), (64, 6, 0)),
-        (b"split n0x".as_slice(), (0, 0), (64, 12, 5)),
-    ] {
-        assert!(rt; longer(rt.alloc(), nodes.as_slice(), more)? == (counted, fault));
+    front: &[u8],
+    words: &[u8],
+    often: u32,
+    is_numbered: bool,
+) -> Result<Text, Memory> {
+    let mut text = Items::from_slice(alloc, front)?;
+    for number in 0..u64::from(often) {
+        text.extend(words)?;
+        if is_numbered {
+            append_decimal(&mut text, number)?;
+            text.extend(b"\n")?;
+        }
     }
-    Ok(())
+    Ok(text)
 }
 
 #[test]
-fn an_epoch_too_many_comes_last(rt: HostRuntime) -> Result<(), Fail> {
-    let epochs = long(rt.alloc())?;
-    for (more, counted, fault) in [
-        (b"".as_slice(), (1024, 1024), (0, 0, 0)),
-        (b"cycles 0".as_slice(), (0, 0), (1025, 4, 0)),
-        (b"cycles 0\ndrain".as_slice(), (0, 0), (1025, 4, 0)),
-        (b"drain".as_slice(), (0, 0), (1025, 12, 6)),
+fn one_too_many_comes_last(rt: HostRuntime) -> Result<(), Fail> {
+    // A front, words, how often they come, whether as numbered lines, and what comes after them:
+    // the number of commands and the last line, and the line, cause and limit number of the fault.
+    for (front, words, often, is_numbered, more, counted, fault) in [
+        // nodes
+        (
+            b"".as_slice(),
+            b"split n".as_slice(),
+            63,
+            true,
+            b"".as_slice(),
+            (63, 63),
+            (0, 0, 0),
+        ),
+        (b"", b"split n", 63, true, b"split n0", (0, 0), (64, 6, 0)),
+        (b"", b"split n", 63, true, b"split n0x", (0, 0), (64, 12, 5)),
+        // epochs, which a `drain` begins as `cycles` does
+        (
+            b"",
+            b"cycles 1\ndrain\n",
+            512,
+            false,
+            b"",
+            (1024, 1024),
+            (0, 0, 0),
+        ),
+        (
+            b"",
+            b"cycles 1\ndrain\n",
+            512,
+            false,
+            b"cycles 0",
+            (0, 0),
+            (1025, 4, 0),
+        ),
+        (
+            b"",
+            b"cycles 1\ndrain\n",
+            512,
+            false,
+            b"cycles 0\ndrain",
+            (0, 0),
+            (1025, 4, 0),
+        ),
+        (
+            b"",
+            b"cycles 1\ndrain\n",
+            512,
+            false,
+            b"drain",
+            (0, 0),
+            (1025, 12, 6),
+        ),
+        // bytes of a file word
+        (b"source s ", b"a", 255, false, b"", (1, 1), (0, 0, 0)),
+        (b"source s ", b"a", 256, false, b"", (0, 0), (1, 5, 0)),
     ] {
-        assert!(rt; longer(rt.alloc(), epochs.as_slice(), more)? == (counted, fault));
-    }
-    Ok(())
-}
-
-#[test]
-fn a_file_word_has_at_most_255_bytes(rt: HostRuntime) -> Result<(), Fail> {
-    for (bytes, counted, fault) in [(255, (1, 1), (0, 0, 0)), (256, (0, 0), (1, 5, 0))] {
-        let text = named(rt.alloc(), bytes)?;
-        assert!(rt; longer(rt.alloc(), text.as_slice(), &[])? == (counted, fault));
+        let mut text = repeated(rt.alloc(), front, words, often, is_numbered)?;
+        text.extend(more)?;
+        assert_eq!(rt;
+            counts(rt.alloc(), text.as_slice()),
+            counted,
+            "{often} of {words:?}, {more:?}"
+        );
+        assert_eq!(rt;
+            fault_of(rt.alloc(), text.as_slice()),
+            fault,
+            "{often} of {words:?}, {more:?}"
+        );
     }
     Ok(())
 }

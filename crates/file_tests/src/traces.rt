@@ -120,68 +120,54 @@ fn three_names(alloc: Global) -> Result<Items<Text>, Memory>
     Ok(names)
 }
 
-/// The line at fault, if one is.
-fn line_at_fault(alloc: Global, names: &Items<Text>, bytes: &[u8]) -> Option<u64>
-    requires { AreNames names.now }
-{
-    match read_events(alloc, names, bytes) {
-        Err(TraceFault::Line(number)) => Some(number),
-        Ok(_events) => None,
-        Err(TraceFault::Memory) => None,
-    }
-}
-
-// Whether the event lines of a text are just these events.
-fn tells(alloc: Global, names: &Items<Text>, text: &[u8], wanted: &[Event]) -> bool
-    requires { AreNames names.now }
-{
-    match read_events(alloc, names, text) {
-        Ok(events) => events.as_slice() == wanted,
-        Err(_fault) => false,
-    }
-}
-
-#[test]
-fn event_lines_are_read(rt: HostRuntime) -> Result<(), Fail> {
-    let names = three_names(rt.alloc())?;
-    let text =
-        b"begin 0\nstart 0 s\nfinish 0 s\nstart 0 o\nfinish 0 o\nstart 0 p\nfinish 0 p\nend 0\n".as_slice();
-    let wanted = [
-        Event::Begin { cycle: 0 },
-        Event::Start { cycle: 0, node: 0 },
-        Event::Finish { cycle: 0, node: 0 },
-        Event::Start { cycle: 0, node: 1 },
-        Event::Finish { cycle: 0, node: 1 },
-        Event::Start { cycle: 0, node: 2 },
-        Event::Finish { cycle: 0, node: 2 },
-        Event::End { cycle: 0 },
-    ];
-    assert!(rt; tells(rt.alloc(), &names, text, wanted.as_slice()));
-    Ok(())
-}
+/// Event lines, and what they tell: a cycle of three nodes; ticks, and a start of the built-in
+/// driver in a line without its line feed.
+const LINES: [(&'static [u8], &'static [Event]); 2] = [
+    (
+        b"begin 0\nstart 0 s\nfinish 0 s\nstart 0 o\nfinish 0 o\nstart 0 p\nfinish 0 p\nend 0\n",
+        &[
+            Event::Begin { cycle: 0 },
+            Event::Start { cycle: 0, node: 0 },
+            Event::Finish { cycle: 0, node: 0 },
+            Event::Start { cycle: 0, node: 1 },
+            Event::Finish { cycle: 0, node: 1 },
+            Event::Start { cycle: 0, node: 2 },
+            Event::Finish { cycle: 0, node: 2 },
+            Event::End { cycle: 0 },
+        ],
+    ),
+    (
+        b"tick 0\ntick 7 s p dummy\nstart 4294967295 dummy",
+        &[
+            Event::Tick { cycle: 0, late: 0 },
+            Event::Tick {
+                cycle: 7,
+                late: 0x8000_0000_0000_0005,
+            },
+            Event::Start {
+                cycle: 4294967295,
+                node: 63,
+            },
+        ],
+    ),
+];
 
 #[test]
-fn the_last_line_may_lack_its_line_feed(rt: HostRuntime) -> Result<(), Fail> {
+fn event_lines_are_read_and_the_last_may_lack_its_line_feed(rt: HostRuntime) -> Result<(), Fail> {
     let names = three_names(rt.alloc())?;
-    let text = b"tick 0\ntick 7 s p dummy\nstart 4294967295 dummy".as_slice();
-    let wanted = [
-        Event::Tick { cycle: 0, late: 0 },
-        Event::Tick {
-            cycle: 7,
-            late: 0x8000_0000_0000_0005,
-        },
-        Event::Start {
-            cycle: 4294967295,
-            node: 63,
-        },
-    ];
-    assert!(rt; tells(rt.alloc(), &names, text, wanted.as_slice()));
+    for (text, wanted) in LINES.as_slice() {
+        let Ok(events) = read_events(rt.alloc(), &names, text) else {
+            panic!(rt; "{text:?} are event lines");
+        };
+        assert!(rt; events.as_slice() == *wanted, "{text:?}");
+    }
     Ok(())
 }
 
 #[test]
 fn a_line_that_is_no_event_is_found_by_its_number(rt: HostRuntime) -> Result<(), Fail> {
     let names = three_names(rt.alloc())?;
+    // A text, and the line at fault.
     for (text, line) in [
         (b"\n".as_slice(), Some(1)),
         (b"begin 0 \n".as_slice(), Some(1)),
@@ -201,7 +187,11 @@ fn a_line_that_is_no_event_is_found_by_its_number(rt: HostRuntime) -> Result<(),
         (b"begin 0\nend 0\n\n".as_slice(), Some(3)),
         (b"".as_slice(), None),
     ] {
-        assert!(rt; line_at_fault(rt.alloc(), &names, text) == line);
+        let found = match read_events(rt.alloc(), &names, text) {
+            Err(TraceFault::Line(number)) => Some(number),
+            Ok(_) | Err(TraceFault::Memory) => None,
+        };
+        assert_eq!(rt; found, line, "{text:?}");
     }
     Ok(())
 }

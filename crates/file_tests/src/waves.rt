@@ -1,5 +1,5 @@
 //! WAV files byte by byte, and the fault of each that is no WAV file.
-use pw_lists::{Items, Memory};
+use pw_lists::Items;
 use std::alloc::Global;
 use std::test::Fail;
 use wav_files::{Wav, read_wav, write_wav};
@@ -40,80 +40,71 @@ fn answer(alloc: Global, bytes: &[u8]) -> (u8, usize) {
     }
 }
 
-/// The bytes of a mono file of four samples.
-fn written(alloc: Global) -> Result<Items<u8>, Memory> {
+#[test]
+fn four_samples_make_a_file(rt: HostRuntime) -> Result<(), Fail> {
     let wav = Wav {
         rate: 48000,
         channels: 1,
-        samples: Items::from_slice(alloc, [7i16, 8, 9, 0].as_slice())?,
+        samples: Items::from_slice(rt.alloc(), [7i16, 8, 9, 0].as_slice())?,
     };
-    let mut bytes = Items::new(alloc);
-    write_wav(alloc, &wav, &mut bytes)?;
-    Ok(bytes)
-}
-
-/// Whether bytes are a mono file of these samples.
-fn has_samples(alloc: Global, bytes: &[u8], samples: &[i16]) -> bool {
-    match read_wav(alloc, bytes) {
-        Ok(wav) => wav.rate == 48000 && wav.channels == 1 && wav.samples.as_slice() == samples,
-        Err(_fault) => false,
-    }
-}
-
-#[test]
-fn four_samples_make_a_file(rt: HostRuntime) -> Result<(), Fail> {
-    let bytes = written(rt.alloc())?;
+    let mut bytes = Items::new(rt.alloc());
+    write_wav(rt.alloc(), &wav, &mut bytes)?;
     assert!(rt; bytes.as_slice() == PLAIN.as_slice());
-    assert!(rt; has_samples(rt.alloc(), PLAIN.as_slice(), [7i16, 8, 9, 0].as_slice()));
     Ok(())
 }
 
 #[test]
-fn files_of_other_tools_are_read(rt: HostRuntime) {
-    for bytes in [STREAMED.as_slice(), EXTENSIBLE.as_slice()] {
-        assert!(rt; has_samples(rt.alloc(), bytes, [1i16, 2].as_slice()));
-    }
-}
-
-/// What reading answers to the first `length` bytes of `STREAMED`.
-fn wanted(length: usize) -> (u8, usize) {
-    match length {
-        0..=11 => (1, 0),
-        12..=19 => (2, 0),
-        20..=35 => (6, 0),
-        36..=43 => (5, 0),
-        44..=46 => (6, 0),
-        47..=55 => (5, 0),
-        56..=57 => (0, 0),
-        58..=59 => (0, 1),
-        _ => (0, 2),
+fn files_of_this_and_of_other_tools_are_read(rt: HostRuntime) {
+    // A file, and its samples.
+    for (number, (bytes, samples)) in [
+        (PLAIN.as_slice(), [7i16, 8, 9, 0].as_slice()),
+        (STREAMED.as_slice(), &[1, 2]),
+        (EXTENSIBLE.as_slice(), &[1, 2]),
+    ]
+    .iter()
+    .enumerate()
+    {
+        let Ok(wav) = read_wav(rt.alloc(), bytes) else {
+            panic!(rt; "file {number} is none");
+        };
+        assert_eq!(rt; (wav.rate, wav.channels), (48000, 1), "of file {number}");
+        assert_eq!(rt; wav.samples.as_slice(), *samples, "of file {number}");
     }
 }
 
 #[test]
 fn each_front_of_a_file_has_its_answer(rt: HostRuntime) {
-    for length in 0..STREAMED.len() {
-        assert_eq!(rt;
-            answer(rt.alloc(), &STREAMED[..length]),
-            wanted(length),
-            "of {length} bytes"
-        );
+    // The lengths of fronts from one on, before another: the fault, or the number of samples.
+    for (from, before, fault, samples) in [
+        (0, 12, 1, 0),
+        (12, 20, 2, 0),
+        (20, 36, 6, 0),
+        (36, 44, 5, 0),
+        (44, 47, 6, 0),
+        (47, 56, 5, 0),
+        (56, 58, 0, 0),
+        (58, 60, 0, 1),
+        (60, 61, 0, 2),
+    ] {
+        for length in from..before {
+            let Some(front) = STREAMED.get(..length) else {
+                panic!(rt; "it has {length} bytes");
+            };
+            assert_eq!(rt;
+                answer(rt.alloc(), front),
+                (fault, samples),
+                "of {length} bytes"
+            );
+        }
     }
-}
-
-/// What reading answers to the plain file where one byte is another.
-fn changed(alloc: Global, place: usize, byte: u8) -> (u8, usize) {
-    let mut bytes = PLAIN;
-    if let Some(changed) = bytes.get_mut(place) {
-        *changed = byte;
-    }
-    answer(alloc, bytes.as_slice())
+    assert_eq!(rt; answer(rt.alloc(), &PLAIN[..48]), (6, 0));
 }
 
 #[test]
 fn one_byte_makes_a_fault(rt: HostRuntime) {
+    // The place of a byte, the byte, and the fault, or the number of samples.
     let table = [
-        (0, b'r', 1, 0), // not a RIFF file
+        (0usize, b'r', 1, 0), // not a RIFF file
         (12, b'x', 2, 0), // the samples are before a format
         (16, 15, 3, 0), // too short a format
         (16, 33, 6, 0), // a format past the end
@@ -130,15 +121,11 @@ fn one_byte_makes_a_fault(rt: HostRuntime) {
         (28, 1, 0, 4), // nor are the bytes a second
     ];
     for (place, byte, fault, samples) in table {
-        assert_eq!(rt;
-            changed(rt.alloc(), place, byte),
-            (fault, samples),
-            "at {place}"
-        );
+        let mut bytes = PLAIN;
+        if let Some(changed) = bytes.get_mut(place) {
+            *changed = byte;
+        }
+        let found = answer(rt.alloc(), bytes.as_slice());
+        assert_eq!(rt; found, (fault, samples), "{byte} at {place}");
     }
-}
-
-#[test]
-fn a_front_of_a_file_is_short(rt: HostRuntime) {
-    assert_eq!(rt; answer(rt.alloc(), &PLAIN[..48]), (6, 0));
 }
