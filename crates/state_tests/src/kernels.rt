@@ -2,10 +2,7 @@
 ghost use Rattle.std.specs.Prelude.{◌≤◌};
 ghost use Rattle.pw_lists.specs.Samples.{IsGain};
 
-use pw_lists::{Items, Memory};
 use s16_mixer::{clamp_out, gain, map_channels, mix_into, mix2, peak, plain, split};
-use std::alloc::Global;
-use std::test::Fail;
 
 #[test]
 fn three_sources_are_added_and_clamped_once(rt: HostRuntime) {
@@ -53,34 +50,24 @@ fn two_rows_are_mixed(rt: HostRuntime) {
 }
 
 #[test]
-fn channels_are_swapped(rt: HostRuntime) {
+fn channels_are_swapped_taken_twice_and_split(rt: HostRuntime) {
     let frames = [1i16, 10, 2, 20];
-    let mut to = [0i16; 4];
+    let mut swapped = [0i16; 4];
     map_channels(
         2,
         [1u32, 0].as_slice(),
         frames.as_slice(),
-        to.as_mut_slice(),
+        swapped.as_mut_slice(),
     );
-    assert!(rt; to == [10, 1, 20, 2]);
-}
-
-#[test]
-fn a_channel_is_taken_twice(rt: HostRuntime) {
-    let frames = [1i16, 10, 2, 20];
-    let mut to = [0i16; 6];
+    assert!(rt; swapped == [10, 1, 20, 2]);
+    let mut twice = [0i16; 6];
     map_channels(
         2,
         [0u32, 0, 1].as_slice(),
         frames.as_slice(),
-        to.as_mut_slice(),
+        twice.as_mut_slice(),
     );
-    assert!(rt; to == [1, 1, 10, 2, 2, 20]);
-}
-
-#[test]
-fn channels_are_split(rt: HostRuntime) {
-    let frames = [1i16, 10, 2, 20];
+    assert!(rt; twice == [1, 1, 10, 2, 2, 20]);
     let (mut left, mut right) = ([0i16; 2], [0i16; 2]);
     split(frames.as_slice(), left.as_mut_slice(), right.as_mut_slice());
     assert!(rt; left == [1, 2] && right == [10, 20]);
@@ -122,22 +109,22 @@ fn gains_and_peaks_agree(n: usize) -> bool
 }
 
 // The same of the kernels that add and limit.
-fn sums_agree(alloc: Global, n: usize) -> Result<bool, Memory>
+fn sums_agree(n: usize) -> bool
     requires { n ≤ 130 }
 {
-    let mut one = Items::filled(alloc, n, 30000)?;
-    let mut two = Items::filled(alloc, n, 30000)?;
+    let (mut one, mut two) = ([30000i32; WIDE], [30000i32; WIDE]);
     let (a, mut left, mut right) = (row_of(), row_of(), row_of());
-    let (a, left, right) = (&a[..n], &mut left[..n], &mut right[..n]);
-    mix_into(one.as_mut_slice(), a);
-    plain::mix_into(two.as_mut_slice(), a);
-    clamp_out(one.as_slice(), left);
-    plain::clamp_out(one.as_slice(), right);
-    Ok(one.as_slice() == two.as_slice() && *left == *right)
+    let (a, one, two) = (&a[..n], &mut one[..n], &mut two[..n]);
+    let (left, right) = (&mut left[..n], &mut right[..n]);
+    mix_into(one, a);
+    plain::mix_into(two, a);
+    clamp_out(one, left);
+    plain::clamp_out(one, right);
+    *one == *two && *left == *right
 }
 
-// The channels of stereo frames swapped, over lanes and by the plain loop.
-fn swaps_agree(frames: usize) -> bool
+// The channels of stereo frames swapped, and the two halves, over lanes and by plain loops.
+fn channels_agree(frames: usize) -> bool
     requires { frames ≤ 65 }
 {
     let (a, mut one, mut two) = (row_of(), row_of(), row_of());
@@ -145,33 +132,22 @@ fn swaps_agree(frames: usize) -> bool
     let (a, one, two) = (&a[..n], &mut one[..n], &mut two[..n]);
     map_channels(2, [1u32, 0].as_slice(), a, one);
     plain::map_channels(2, [1u32, 0].as_slice(), a, two);
-    *one == *two
-}
-
-// The halves of stereo frames, by lanes and by the plain loop.
-fn halves_agree(frames: usize) -> bool
-    requires { frames ≤ 65 }
-{
-    let a = row_of();
-    let (mut left, mut right, mut x, mut y) = (row_of(), row_of(), row_of(), row_of());
-    let a = &a[..2 * frames];
-    let (left, right) = (&mut left[..frames], &mut right[..frames]);
-    let (x, y) = (&mut x[..frames], &mut y[..frames]);
+    let swapped = *one == *two;
+    let (left, right) = one.split_at_mut(frames);
+    let (x, y) = two.split_at_mut(frames);
     split(a, left, right);
     plain::split(a, x, y);
-    *left == *x && *right == *y
+    swapped && *left == *x && *right == *y
 }
 
 #[test]
-fn lanes_leave_what_plain_loops_leave(rt: HostRuntime) -> Result<(), Fail> {
+fn lanes_leave_what_plain_loops_leave(rt: HostRuntime) {
     // Nothing, one sample, one lane, and one lane and one.
     for n in [0, 1, 128, 129] {
-        assert!(rt; gains_and_peaks_agree(n));
-        assert!(rt; sums_agree(rt.alloc(), n)?);
+        assert!(rt; gains_and_peaks_agree(n), "{n} samples");
+        assert!(rt; sums_agree(n), "{n} samples");
     }
     for frames in [0, 1, 64, 65] {
-        assert!(rt; swaps_agree(frames));
-        assert!(rt; halves_agree(frames));
+        assert!(rt; channels_agree(frames), "{frames} frames");
     }
-    Ok(())
 }

@@ -1,8 +1,6 @@
 //! Small sound plans: what their sinks keep, and the peaks of their meters.
 
 use crate::rows::{EpochRow, PlanRow, Sort, outcome_of};
-use pw_lists::Memory;
-use std::alloc::Global;
 use std::test::Fail;
 use wav_files::Outcome;
 
@@ -14,32 +12,6 @@ fn keeps(outcome: &Outcome, node: u32, samples: &[i16]) -> bool {
         }
     }
     false
-}
-
-// Whether each of these sinks keeps its samples.
-fn all_keep(outcome: &Outcome, sinks: &[(u32, &[i16])]) -> bool {
-    for (node, samples) in sinks {
-        if !keeps(outcome, *node, samples) {
-            return false;
-        }
-    }
-    true
-}
-
-// Whether there is one peak, which is this one of this meter.
-fn has_peak(outcome: &Outcome, meter: u32, greatest: u32) -> bool {
-    match outcome.peaks.as_slice() {
-        [peak] => peak.node == meter && peak.value == greatest,
-        _ => false,
-    }
-}
-
-// Whether the sinks of a plan keep their samples.
-fn renders(alloc: Global, plan: PlanRow<'_>, sinks: &[(u32, &[i16])]) -> Result<bool, Memory> {
-    match outcome_of(alloc, plan)? {
-        Some(outcome) => Ok(all_keep(&outcome, sinks)),
-        None => Ok(false),
-    }
 }
 
 /// A source, a square, a gain, a mixer, a delay, a map, a split, four sinks and a meter.
@@ -123,25 +95,6 @@ const EACH_SINK: [(u32, &'static [i16]); 4] = [
     (11, &[150, 150, -150, -150, 150, 150, -150, -150]),
 ];
 
-// Whether each sink keeps its samples, and the meter has the greatest possible peak.
-fn gives_its_samples(outcome: &Outcome) -> bool {
-    all_keep(outcome, EACH_SINK.as_slice()) && has_peak(outcome, 10, 32768)
-}
-
-// Whether the plan of all kinds does so.
-fn each_kind_gives(alloc: Global) -> Result<bool, Memory> {
-    match outcome_of(alloc, EACH_KIND)? {
-        Some(outcome) => Ok(gives_its_samples(&outcome)),
-        None => Ok(false),
-    }
-}
-
-#[test]
-fn each_kind_gives_its_samples(rt: HostRuntime) -> Result<(), Fail> {
-    assert!(rt; each_kind_gives(rt.alloc())?);
-    Ok(())
-}
-
 /// A cycle of a source, a delay and a sink that drives.
 const ONCE: EpochRow<'static> = EpochRow {
     first: 0,
@@ -168,17 +121,6 @@ const RELEASED: PlanRow<'static> = PlanRow {
     channels: 1,
     samples: &[1, 2, 3, 4],
 };
-
-// Whether its sink keeps what it is to keep.
-fn released_delay_renders(alloc: Global) -> Result<bool, Memory> {
-    renders(alloc, RELEASED, &[(2, &[0, 1, 0, 3])])
-}
-
-#[test]
-fn a_released_delay_begins_anew(rt: HostRuntime) -> Result<(), Fail> {
-    assert!(rt; released_delay_renders(rt.alloc())?);
-    Ok(())
-}
 
 /// A cycle of a source and a sink that drives.
 const ON: EpochRow<'static> = EpochRow {
@@ -215,17 +157,6 @@ const OFF: PlanRow<'static> = PlanRow {
     samples: &[1, 2, 3, 4, 5, 6],
 };
 
-// Whether its sink keeps what it is to keep.
-fn source_off_renders(alloc: Global) -> Result<bool, Memory> {
-    renders(alloc, OFF, &[(1, &[1, 2, 0, 0, 3, 4])])
-}
-
-#[test]
-fn a_source_that_was_off_goes_on(rt: HostRuntime) -> Result<(), Fail> {
-    assert!(rt; source_off_renders(rt.alloc())?);
-    Ok(())
-}
-
 /// A mixer whose second input is fed back through a gain.
 const FEEDBACK: PlanRow<'static> = PlanRow {
     quantum: 1,
@@ -261,13 +192,52 @@ const FEEDBACK: PlanRow<'static> = PlanRow {
     samples: &[8],
 };
 
-// Whether its sink keeps what it is to keep.
-fn feedback_renders(alloc: Global) -> Result<bool, Memory> {
-    renders(alloc, FEEDBACK, &[(3, &[8, 0, 4, 0, 2])])
-}
+/// Plans, what their sinks keep, and the peaks of their meters.
+const PLANS: [(
+    &'static str,
+    PlanRow<'static>,
+    &'static [(u32, &'static [i16])],
+    &'static [(u32, u32)],
+); 4] = [
+    (
+        "each kind gives its samples",
+        EACH_KIND,
+        &EACH_SINK,
+        &[(10, 32768)],
+    ),
+    (
+        "a released delay begins anew",
+        RELEASED,
+        &[(2, &[0, 1, 0, 3])],
+        &[],
+    ),
+    (
+        "a source that was off goes on",
+        OFF,
+        &[(1, &[1, 2, 0, 0, 3, 4])],
+        &[],
+    ),
+    (
+        "feedback passes through a late link",
+        FEEDBACK,
+        &[(3, &[8, 0, 4, 0, 2])],
+        &[],
+    ),
+];
 
 #[test]
-fn feedback_passes_through_a_late_link(rt: HostRuntime) -> Result<(), Fail> {
-    assert!(rt; feedback_renders(rt.alloc())?);
+fn plans_give_their_samples_and_peaks(rt: HostRuntime) -> Result<(), Fail> {
+    for (title, plan, sinks, peaks) in PLANS.as_slice() {
+        let Some(outcome) = outcome_of(rt.alloc(), *plan)? else {
+            panic!(rt; "{title}: it is sound");
+        };
+        for (node, samples) in *sinks {
+            assert!(rt; keeps(&outcome, *node, samples), "{title}: node {node}");
+        }
+        assert_eq!(rt; outcome.peaks.len(), peaks.len(), "{title}");
+        for (peak, (meter, greatest)) in outcome.peaks.as_slice().iter().zip(*peaks) {
+            assert_eq!(rt; (peak.node, peak.value), (*meter, *greatest), "{title}");
+        }
+    }
     Ok(())
 }

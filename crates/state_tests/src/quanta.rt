@@ -7,45 +7,70 @@ use pw_lists::Items;
 use std::test::Fail;
 use wav_files::Wav;
 
-#[test]
-fn a_square_changes_each_half_period(rt: HostRuntime) -> Result<(), Fail> {
-    let kind = Kind::Square {
-        rate: 48000,
-        channels: 1,
-        period: 4,
-        amp: 100,
-    };
-    // Two quanta of two periods each.
-    let left = [
-        100i16, 100, -100, -100, 100, 100, -100, -100, 100, 100, -100, -100, 100, 100, -100, -100,
-    ];
-    assert!(rt; gives(rt.alloc(), &kind, 0, 8, 2, one_way(&[], left.as_slice()))?);
-    Ok(())
-}
+/// A square of period 4 and amplitude 100.
+const SQUARE: Kind = Kind::Square {
+    rate: 48000,
+    channels: 1,
+    period: 4,
+    amp: 100,
+};
+
+/// Two quanta of two periods each.
+const OF_SQUARE: [i16; 16] = [
+    100, 100, -100, -100, 100, 100, -100, -100, 100, 100, -100, -100, 100, 100, -100, -100,
+];
 
 #[test]
-fn a_map_swaps_channels(rt: HostRuntime) -> Result<(), Fail> {
+fn a_square_changes_and_a_map_swaps(rt: HostRuntime) -> Result<(), Fail> {
+    let streams = one_way(&[], OF_SQUARE.as_slice());
+    assert!(rt; gives(rt.alloc(), &SQUARE, 0, 8, 2, streams)?);
     let list = Items::from_slice(rt.alloc(), [1u32, 0].as_slice())?;
-    let kind = Kind::Map { channels: 2, list };
     let streams = one_way(&[1, 10, 2, 20], &[10, 1, 20, 2]);
-    assert!(rt; gives(rt.alloc(), &kind, 2, 2, 1, streams)?);
+    assert!(rt;
+        gives(
+            rt.alloc(),
+            &Kind::Map { channels: 2, list },
+            2,
+            2,
+            1,
+            streams
+        )?
+    );
     Ok(())
 }
 
 #[test]
-fn a_delay_longer_than_the_quanta_gives_zeros(rt: HostRuntime) -> Result<(), Fail> {
+fn a_delay_is_longer_or_shorter_than_a_quantum(rt: HostRuntime) -> Result<(), Fail> {
     let streams = one_way(
         &[1, 2, 3, 4, 5, 6, 7, 8, 9, 9, 9, 9],
         &[0, 0, 0, 0, 0, 0, 0, 0, 0, 0, 1, 2],
     );
     assert!(rt; gives(rt.alloc(), &Kind::Delay { frames: 10 }, 1, 4, 3, streams)?);
+    let streams = one_way(&[1, 2, 3, 4, 5, 6, 7, 8], &[0, 0, 0, 1, 2, 3, 4, 5]);
+    assert!(rt; gives(rt.alloc(), &Kind::Delay { frames: 3 }, 1, 2, 4, streams)?);
     Ok(())
 }
 
 #[test]
-fn a_short_delay_turns_round_its_ring(rt: HostRuntime) -> Result<(), Fail> {
-    let streams = one_way(&[1, 2, 3, 4, 5, 6, 7, 8], &[0, 0, 0, 1, 2, 3, 4, 5]);
-    assert!(rt; gives(rt.alloc(), &Kind::Delay { frames: 3 }, 1, 2, 4, streams)?);
+fn gains_are_rounded_once(rt: HostRuntime) -> Result<(), Fail> {
+    let streams = one_way(&[3, -1], &[1, -1]);
+    assert!(rt; gives(rt.alloc(), &Kind::Gain { g: 128 }, 1, 2, 1, streams)?);
+    let streams = Streams {
+        a: &[3, -1],
+        b: &[3, -2],
+        left: &[3, -2],
+        right: &[],
+    };
+    assert!(rt;
+        gives(
+            rt.alloc(),
+            &Kind::Mix2 { ga: 128, gb: 128 },
+            1,
+            2,
+            1,
+            streams
+        )?
+    );
     Ok(())
 }
 
@@ -119,28 +144,5 @@ fn a_split_writes_the_outputs_that_have_a_form(rt: HostRuntime) -> Result<(), Fa
     let mut alone = [9i16; 2];
     node.process(frames.as_slice(), &[], &mut [], alone.as_mut_slice());
     assert!(rt; alone.as_slice() == [10i16, 20].as_slice());
-    Ok(())
-}
-
-#[test]
-fn gains_are_rounded_once(rt: HostRuntime) -> Result<(), Fail> {
-    let streams = one_way(&[3, -1], &[1, -1]);
-    assert!(rt; gives(rt.alloc(), &Kind::Gain { g: 128 }, 1, 2, 1, streams)?);
-    let streams = Streams {
-        a: &[3, -1],
-        b: &[3, -2],
-        left: &[3, -2],
-        right: &[],
-    };
-    assert!(rt;
-        gives(
-            rt.alloc(),
-            &Kind::Mix2 { ga: 128, gb: 128 },
-            1,
-            2,
-            1,
-            streams
-        )?
-    );
     Ok(())
 }

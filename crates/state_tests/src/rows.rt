@@ -71,117 +71,81 @@ fn kind_of(alloc: Global, sort: Sort<'_>) -> Result<Kind, Memory> {
     })
 }
 
-// A node without a name; one that ends with channels has the rate 48000.
-fn node(alloc: Global, sort: Sort<'_>) -> Result<PlanNode, Memory> {
-    let channels = match sort {
-        Sort::Sink(channels) | Sort::Meter(channels) => channels,
-        _ => 0,
-    };
-    Ok(PlanNode {
-        name: Items::new(alloc),
-        kind: kind_of(alloc, sort)?,
-        k: 0,
-        rate: if channels > 0 { 48000 } else { 0 },
-        channels,
-    })
-}
-
-// The nodes of a plan.
+// The nodes of a plan, without names; one that ends with channels has the rate 48000.
 fn nodes_of(alloc: Global, sorts: &[Sort<'_>]) -> Result<Items<PlanNode>, Memory> {
     let mut nodes = Items::new(alloc);
     for sort in sorts {
-        nodes.push(node(alloc, *sort)?)?;
-    }
-    Ok(nodes)
-}
-
-// The link of a row.
-fn link(row: LinkRow) -> ShapeLink {
-    let (from, to, channels, delayed) = row;
-    ShapeLink {
-        from: PortId {
-            node: from.0,
-            port: from.1,
-        },
-        to: PortId {
-            node: to.0,
-            port: to.1,
-        },
-        channels,
-        buffers: 2,
-        delayed,
-    }
-}
-
-// The links of an epoch.
-fn links_of(alloc: Global, rows: &[LinkRow]) -> Result<Items<ShapeLink>, Memory> {
-    let mut links = Items::new(alloc);
-    for row in rows {
-        links.push(link(*row))?;
-    }
-    Ok(links)
-}
-
-// Whether a link that is not late goes from a node to another.
-fn is_linked(links: &[LinkRow], from: u32, to: u32) -> bool {
-    for (one, other, _channels, delayed) in links {
-        if !*delayed && one.0 == from && other.0 == to {
-            return true;
-        }
-    }
-    false
-}
-
-// Whether a node waits for another. The driver waits for all, and all for it.
-fn waits(row: EpochRow<'_>, node: u32, other: u32) -> bool {
-    node == row.driver || other == row.driver || is_linked(row.links, other, node)
-}
-
-// The nodes that wait for a node, the driver last.
-fn targets(alloc: Global, row: EpochRow<'_>, node: u32) -> Result<Items<u32>, Memory> {
-    let mut targets = Items::new(alloc);
-    for other in row.nodes {
-        if *other != row.driver && waits(row, *other, node) {
-            targets.push(*other)?;
-        }
-    }
-    targets.push(row.driver)?;
-    Ok(targets)
-}
-
-// For how many nodes a node waits.
-fn required(row: EpochRow<'_>, node: u32) -> u32 {
-    let mut required: u32 = 0;
-    for other in row.nodes {
-        if waits(row, node, *other) {
-            required = required.saturating_add(1);
-        }
-    }
-    required
-}
-
-// The active nodes of an epoch, each with its required count and its targets.
-fn actives(alloc: Global, row: EpochRow<'_>) -> Result<Items<ShapeNode>, Memory> {
-    let mut nodes = Items::new(alloc);
-    for node in row.nodes {
-        nodes.push(ShapeNode {
-            node: *node,
-            required: required(row, *node),
-            targets: targets(alloc, row, *node)?,
+        let channels = match *sort {
+            Sort::Sink(channels) | Sort::Meter(channels) => channels,
+            _ => 0,
+        };
+        nodes.push(PlanNode {
+            name: Items::new(alloc),
+            kind: kind_of(alloc, *sort)?,
+            k: 0,
+            rate: if channels > 0 { 48000 } else { 0 },
+            channels,
         })?;
     }
     Ok(nodes)
 }
 
+// A port of a node.
+fn port((node, port): (u32, u32)) -> PortId {
+    PortId { node, port }
+}
+
+// The links of an epoch.
+fn links_of(alloc: Global, rows: &[LinkRow]) -> Result<Items<ShapeLink>, Memory> {
+    let mut links = Items::new(alloc);
+    for (from, to, channels, delayed) in rows {
+        links.push(ShapeLink {
+            from: port(*from),
+            to: port(*to),
+            channels: *channels,
+            buffers: 2,
+            delayed: *delayed,
+        })?;
+    }
+    Ok(links)
+}
+
+// Whether a node waits for another: by a link that is not late, the driver for all, and all for it.
+fn waits(row: EpochRow<'_>, node: u32, other: u32) -> bool {
+    for (from, to, _channels, delayed) in row.links {
+        if !*delayed && from.0 == other && to.0 == node {
+            return true;
+        }
+    }
+    node == row.driver || other == row.driver
+}
+
+// An active node: for how many it waits, and those that wait for it, the driver last.
+fn active(alloc: Global, row: EpochRow<'_>, node: u32) -> Result<ShapeNode, Memory> {
+    let mut required: u32 = 0;
+    let mut targets = Items::new(alloc);
+    for other in row.nodes {
+        if waits(row, node, *other) {
+            required = required.saturating_add(1);
+        }
+        if *other != row.driver && waits(row, *other, node) {
+            targets.push(*other)?;
+        }
+    }
+    targets.push(row.driver)?;
+    Ok(ShapeNode {
+        node,
+        required,
+        targets,
+    })
+}
+
 // The forms of an epoch, at 48000 frames a second.
 fn forms_of(alloc: Global, rows: &[(u32, u32, u32)]) -> Result<Items<PortForm>, Memory> {
     let mut forms = Items::new(alloc);
-    for (node, port, channels) in rows {
+    for (node, number, channels) in rows {
         forms.push(PortForm {
-            port: PortId {
-                node: *node,
-                port: *port,
-            },
+            port: port((*node, *number)),
             rate: 48000,
             channels: *channels,
         })?;
@@ -201,46 +165,38 @@ fn fresh_of(alloc: Global, rows: &[(u32, u32)]) -> Result<Items<Fresh>, Memory> 
     Ok(fresh)
 }
 
-// The shape of an epoch.
-fn shape_of(alloc: Global, quantum: u32, row: EpochRow<'_>) -> Result<Shape, Memory> {
-    let links = links_of(alloc, row.links)?;
-    Ok(Shape {
+// The epoch of a row.
+fn epoch_of(alloc: Global, quantum: u32, row: EpochRow<'_>) -> Result<Epoch, Memory> {
+    let mut nodes = Items::new(alloc);
+    for node in row.nodes {
+        nodes.push(active(alloc, row, *node)?)?;
+    }
+    let shape = Shape {
         quantum,
         first: row.first,
         cycles: row.cycles,
         driver: row.driver,
-        nodes: actives(alloc, row)?,
-        links,
-    })
-}
-
-// The epoch of a row.
-fn epoch_of(alloc: Global, quantum: u32, row: EpochRow<'_>) -> Result<Epoch, Memory> {
+        nodes,
+        links: links_of(alloc, row.links)?,
+    };
     let forms = forms_of(alloc, row.forms)?;
-    let fresh = fresh_of(alloc, row.fresh)?;
     Ok(Epoch {
-        shape: shape_of(alloc, quantum, row)?,
+        shape,
         forms,
-        fresh,
+        fresh: fresh_of(alloc, row.fresh)?,
     })
-}
-
-// The epochs of a plan.
-fn epochs_of(alloc: Global, row: PlanRow<'_>) -> Result<Items<Epoch>, Memory> {
-    let mut epochs = Items::new(alloc);
-    for epoch in row.epochs {
-        epochs.push(epoch_of(alloc, row.quantum, *epoch)?)?;
-    }
-    Ok(epochs)
 }
 
 /// The plan of a row.
 pub fn plan_of(alloc: Global, row: PlanRow<'_>) -> Result<Plan, Memory> {
-    let nodes = nodes_of(alloc, row.nodes)?;
+    let mut epochs = Items::new(alloc);
+    for epoch in row.epochs {
+        epochs.push(epoch_of(alloc, row.quantum, *epoch)?)?;
+    }
     Ok(Plan {
         quantum: row.quantum,
-        nodes,
-        epochs: epochs_of(alloc, row)?,
+        nodes: nodes_of(alloc, row.nodes)?,
+        epochs,
         lines: Items::new(alloc),
     })
 }

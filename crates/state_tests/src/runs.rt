@@ -5,8 +5,6 @@ use crate::chain::keeps;
 use crate::rows::{EpochRow, PlanRow, Sort, plan_of, waves_of};
 use graph_checks::is_sound_plan;
 use node_progress::{restart_in, worked_cycles};
-use pw_graph::Plan;
-use std::alloc::Global;
 use std::test::Fail;
 
 /// All three nodes are on and linked for a cycle, and no node begins anew.
@@ -144,78 +142,41 @@ const RUNS: [(PlanRow<'static>, &'static [i16]); 7] = [
     ),
 ];
 
-// Whether the sink of a plan keeps these samples after all epochs of its row.
-fn plan_keeps(alloc: Global, plan: &Plan, row: PlanRow<'_>, samples: &[i16]) -> bool {
-    let epochs = u32::try_from(row.epochs.len()).unwrap_or(0);
-    match waves_of(alloc, row) {
-        Ok(waves) => keeps(alloc, plan, &waves, epochs, samples),
-        Err(_memory) => false,
-    }
-}
-
-// The same of the plan of a row.
-fn row_keeps(alloc: Global, row: PlanRow<'_>, samples: &[i16]) -> bool {
-    match plan_of(alloc, row) {
-        Ok(plan) => plan_keeps(alloc, &plan, row, samples),
-        Err(_memory) => false,
-    }
-}
-
-// The first row whose sink keeps something else.
-fn first_unlike(alloc: Global, rows: &[(PlanRow<'_>, &[i16])]) -> Option<usize> {
-    for (at, (row, samples)) in rows.iter().enumerate() {
-        if !row_keeps(alloc, *row, samples) {
-            return Some(at);
-        }
-    }
-    None
-}
-
-// That of the runs.
-fn first_unlike_run(alloc: Global) -> Option<usize> {
-    first_unlike(alloc, RUNS.as_slice())
-}
-
 #[test]
 fn each_sink_keeps_its_samples(rt: HostRuntime) -> Result<(), Fail> {
-    assert_eq!(rt; first_unlike_run(rt.alloc()), None);
-    Ok(())
-}
-
-// Whether one cycle is counted of a driver that has a form in one of two, and of the source.
-fn counts_one(alloc: Global) -> bool {
-    match plan_of(alloc, FORMED_LATER) {
-        Ok(plan) => {
-            is_sound_plan(&plan) && worked_cycles(&plan, 2) == 1 && worked_cycles(&plan, 0) == 1
-        }
-        Err(_memory) => false,
+    for (number, (row, samples)) in RUNS.as_slice().iter().enumerate() {
+        let plan = plan_of(rt.alloc(), *row)?;
+        let waves = waves_of(rt.alloc(), *row)?;
+        let epochs = u32::try_from(row.epochs.len()).unwrap_or(0);
+        assert!(rt;
+            keeps(rt.alloc(), &plan, &waves, epochs, samples),
+            "row {number}"
+        );
     }
+    Ok(())
 }
 
 #[test]
 fn a_cycle_without_a_form_is_not_counted(rt: HostRuntime) -> Result<(), Fail> {
-    assert!(rt; counts_one(rt.alloc()));
-    Ok(())
-}
-
-// Whether restarts are those of the epoch, of which there is no third.
-fn restarts(plan: &Plan) -> bool {
-    restart_in(plan, 0, 1) == None
-        && restart_in(plan, 1, 1) == Some(1)
-        && restart_in(plan, 1, 0) == None
-        && restart_in(plan, 2, 1) == None
-}
-
-// Whether those of a plan that names nodes in its second epoch are.
-fn restarts_when_named(alloc: Global) -> bool {
-    match plan_of(alloc, NAMED_LATER) {
-        Ok(plan) => restarts(&plan),
-        Err(_memory) => false,
+    let plan = plan_of(rt.alloc(), FORMED_LATER)?;
+    assert!(rt; is_sound_plan(&plan));
+    // Of the driver, which has a form in one of two epochs, and of the source.
+    for node in [2, 0] {
+        assert_eq!(rt; worked_cycles(&plan, node), 1, "of node {node}");
     }
+    Ok(())
 }
 
 #[test]
 fn restarts_are_those_of_the_epoch(rt: HostRuntime) -> Result<(), Fail> {
-    assert!(rt; restarts_when_named(rt.alloc()));
+    let plan = plan_of(rt.alloc(), NAMED_LATER)?;
+    // An epoch, of which there is no third, a node, and its channels.
+    for (epoch, node, channels) in [(0, 1, None), (1, 1, Some(1)), (1, 0, None), (2, 1, None)] {
+        assert_eq!(rt;
+            restart_in(&plan, epoch, node),
+            channels,
+            "node {node} in epoch {epoch}"
+        );
+    }
     Ok(())
 }
