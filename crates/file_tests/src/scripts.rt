@@ -310,76 +310,72 @@ fn repeated(
     Ok(text)
 }
 
+/// A front, words, how often they come, whether as numbered lines, and what comes after them: the
+/// number of commands and the last line, and the line, cause and limit number of the fault.
+type LongRow = (
+    &'static [u8],
+    &'static [u8],
+    u32,
+    bool,
+    &'static [u8],
+    (usize, u32),
+    (u32, u8, u8),
+);
+
+const LONG: [LongRow; 9] = [
+    // nodes
+    (b"", b"split n", 63, true, b"", (63, 63), (0, 0, 0)),
+    (b"", b"split n", 63, true, b"split n0", (0, 0), (64, 6, 0)),
+    (b"", b"split n", 63, true, b"split n0x", (0, 0), (64, 12, 5)),
+    // epochs, which a `drain` begins as `cycles` does
+    (
+        b"",
+        b"cycles 1\ndrain\n",
+        512,
+        false,
+        b"",
+        (1024, 1024),
+        (0, 0, 0),
+    ),
+    (
+        b"",
+        b"cycles 1\ndrain\n",
+        512,
+        false,
+        b"cycles 0",
+        (0, 0),
+        (1025, 4, 0),
+    ),
+    (
+        b"",
+        b"cycles 1\ndrain\n",
+        512,
+        false,
+        b"cycles 0\ndrain",
+        (0, 0),
+        (1025, 4, 0),
+    ),
+    (
+        b"",
+        b"cycles 1\ndrain\n",
+        512,
+        false,
+        b"drain",
+        (0, 0),
+        (1025, 12, 6),
+    ),
+    // bytes of a file word
+    (b"source s ", b"a", 255, false, b"", (1, 1), (0, 0, 0)),
+    (b"source s ", b"a", 256, false, b"", (0, 0), (1, 5, 0)),
+];
+
 #[test]
 fn one_too_many_comes_last(rt: HostRuntime) -> Result<(), Fail> {
-    // A front, words, how often they come, whether as numbered lines, and what comes after them:
-    // the number of commands and the last line, and the line, cause and limit number of the fault.
-    for (front, words, often, is_numbered, more, counted, fault) in [
-        // nodes
-        (
-            b"".as_slice(),
-            b"split n".as_slice(),
-            63,
-            true,
-            b"".as_slice(),
-            (63, 63),
-            (0, 0, 0),
-        ),
-        (b"", b"split n", 63, true, b"split n0", (0, 0), (64, 6, 0)),
-        (b"", b"split n", 63, true, b"split n0x", (0, 0), (64, 12, 5)),
-        // epochs, which a `drain` begins as `cycles` does
-        (
-            b"",
-            b"cycles 1\ndrain\n",
-            512,
-            false,
-            b"",
-            (1024, 1024),
-            (0, 0, 0),
-        ),
-        (
-            b"",
-            b"cycles 1\ndrain\n",
-            512,
-            false,
-            b"cycles 0",
-            (0, 0),
-            (1025, 4, 0),
-        ),
-        (
-            b"",
-            b"cycles 1\ndrain\n",
-            512,
-            false,
-            b"cycles 0\ndrain",
-            (0, 0),
-            (1025, 4, 0),
-        ),
-        (
-            b"",
-            b"cycles 1\ndrain\n",
-            512,
-            false,
-            b"drain",
-            (0, 0),
-            (1025, 12, 6),
-        ),
-        // bytes of a file word
-        (b"source s ", b"a", 255, false, b"", (1, 1), (0, 0, 0)),
-        (b"source s ", b"a", 256, false, b"", (0, 0), (1, 5, 0)),
-    ] {
-        let mut text = repeated(rt.alloc(), front, words, often, is_numbered)?;
+    for (row, (front, words, often, is_numbered, more, counted, fault)) in LONG.iter().enumerate() {
+        let mut text = repeated(rt.alloc(), front, words, *often, *is_numbered)?;
         text.extend(more)?;
-        assert_eq!(rt;
-            counts(rt.alloc(), text.as_slice()),
-            counted,
-            "{often} of {words:?}, {more:?}"
-        );
-        assert_eq!(rt;
-            fault_of(rt.alloc(), text.as_slice()),
-            fault,
-            "{often} of {words:?}, {more:?}"
-        );
+        assert_eq!(rt; counts(rt.alloc(), text.as_slice()), *counted, "row {row}");
+        assert_eq!(rt; fault_of(rt.alloc(), text.as_slice()), *fault, "row {row}");
     }
     Ok(())
 }
