@@ -1,9 +1,8 @@
 //! Pieces of a text, a name among names, the next node of an order, and ports and sinks.
 
 use crate::rows::link;
-use pw_graph::{Kind, NODES, PortId, ShapeLink, find_free, is_same_port, is_sink};
-use pw_lists::{Items, Memory, Text, next_piece, place_of_name};
-use std::alloc::Global;
+use pw_graph::{Kind, NODES, PortId, find_free, is_same_port, is_sink};
+use pw_lists::{Items, Text, next_piece, place_of_name};
 use std::test::Fail;
 
 // The piece of a text at a place.
@@ -23,54 +22,51 @@ fn a_text_has_one_piece_more_than_marks(rt: HostRuntime) {
         (2, Some(b"7".as_slice())),
         (3, None),
     ] {
-        assert!(rt; piece_at(b"tick  7".as_slice(), b' ', place) == piece);
+        assert!(rt;
+            piece_at(b"tick  7".as_slice(), b' ', place) == piece,
+            "piece {place}"
+        );
     }
-}
-
-// Three names, of which the last two are one.
-fn three_names(alloc: Global) -> Result<Items<Text>, Memory> {
-    let mut names = Items::new(alloc);
-    for name in [b"tone".as_slice(), b"mix".as_slice(), b"mix".as_slice()] {
-        names.push(Items::from_slice(alloc, name)?)?;
-    }
-    Ok(names)
 }
 
 #[test]
 fn a_name_stands_at_its_first_place(rt: HostRuntime) -> Result<(), Fail> {
-    let names = three_names(rt.alloc())?;
+    let mut names: Items<Text> = Items::new(rt.alloc());
+    for name in [b"tone".as_slice(), b"mix".as_slice(), b"mix".as_slice()] {
+        names.push(Items::from_slice(rt.alloc(), name)?)?;
+    }
     assert!(rt; place_of_name(names.as_slice(), b"mix".as_slice()) == Some(1));
     assert!(rt; place_of_name(names.as_slice(), b"mi".as_slice()) == None);
     Ok(())
 }
 
-// The next node of an order where these of the nodes 0, 1 and 2 are left.
-fn next_of(links: &[ShapeLink], three: [bool; 3]) -> Option<usize> {
-    let mut left = [false; NODES];
-    left[0] = three[0];
-    left[1] = three[1];
-    left[2] = three[2];
-    find_free(links, left.as_slice())
-}
-
-// A link of one channel and two buffers.
-fn plain(from: (u32, u32), to: (u32, u32)) -> ShapeLink {
-    link((from, to, 1, 2, false))
-}
-
 #[test]
 fn a_node_is_free_once_its_sources_are_gone(rt: HostRuntime) {
-    let late = link(((2, 1), (0, 0), 1, 2, true));
-    let chain = [plain((0, 1), (2, 0)), plain((1, 0), (2, 0)), late];
-    let round = [plain((0, 1), (1, 0)), plain((1, 1), (0, 0))];
-    for (links, three, free) in [
+    let chain = [
+        link(((0, 1), (2, 0), 1, 2, false)),
+        link(((1, 0), (2, 0), 1, 2, false)),
+        link(((2, 1), (0, 0), 1, 2, true)),
+    ];
+    let round = [
+        link(((0, 1), (1, 0), 1, 2, false)),
+        link(((1, 1), (0, 0), 1, 2, false)),
+    ];
+    // The links, which of the nodes 0, 1 and 2 are left, and the next node.
+    for (row, (links, three, free)) in [
         (chain.as_slice(), [true, true, true], Some(0)),
         (chain.as_slice(), [false, true, true], Some(1)),
         (chain.as_slice(), [false, false, true], Some(2)),
         (chain.as_slice(), [false, false, false], None),
         (round.as_slice(), [true, true, false], None),
-    ] {
-        assert!(rt; next_of(links, three) == free);
+    ]
+    .iter()
+    .enumerate()
+    {
+        let mut left = [false; NODES];
+        left[0] = three[0];
+        left[1] = three[1];
+        left[2] = three[2];
+        assert!(rt; find_free(links, left.as_slice()) == *free, "row {row}");
     }
 }
 

@@ -33,15 +33,6 @@ fn event_named(letter: u8) -> Event {
     }
 }
 
-// The events that letters name.
-fn events_named(alloc: Global, letters: &[u8]) -> Result<Items<Event>, Memory> {
-    let mut events = Items::new(alloc);
-    for letter in letters {
-        events.push(event_named(*letter))?;
-    }
-    Ok(events)
-}
-
 /// One epoch of the worked shape.
 const WORKED: [EpochRow<'static>; 1] = [EpochRow {
     shape: TWO_LINKS,
@@ -51,7 +42,10 @@ const WORKED: [EpochRow<'static>; 1] = [EpochRow {
 
 // Whether the events that letters name are a legal history of the worked shape.
 fn is_legal(alloc: Global, letters: &[u8]) -> Result<bool, Memory> {
-    let events = events_named(alloc, letters)?;
+    let mut events = Items::new(alloc);
+    for letter in letters {
+        events.push(event_named(*letter))?;
+    }
     let epochs = epochs_of(alloc, WORKED.as_slice())?;
     Ok(is_legal_history(epochs.as_slice(), events.as_slice()))
 }
@@ -89,27 +83,6 @@ fn histories_are_legal_or_not(rt: HostRuntime) -> Result<(), Fail> {
     Ok(())
 }
 
-// The four events of a cycle of one node.
-fn of_one(cycle: u32, node: u32) -> [Event; 4] {
-    [
-        Event::Begin { cycle },
-        Event::Start { cycle, node },
-        Event::Finish { cycle, node },
-        Event::End { cycle },
-    ]
-}
-
-// The events of cycles, from the first on, that have these nodes.
-fn cycles_of(alloc: Global, nodes: &[u32]) -> Result<Items<Event>, Memory> {
-    let mut events = Items::new(alloc);
-    let mut cycle: u32 = 0;
-    for node in nodes {
-        events.extend(&of_one(cycle, *node))?;
-        cycle = cycle.wrapping_add(1);
-    }
-    Ok(events)
-}
-
 /// Two cycles of the built-in driver, then one of node 0.
 const TWO_EPOCHS: [EpochRow<'static>; 2] = [
     EpochRow {
@@ -130,9 +103,20 @@ const TWO_EPOCHS: [EpochRow<'static>; 2] = [
     },
 ];
 
-// Whether cycles of these nodes are a legal history of the two epochs.
+// Whether cycles, from the first on, that have these nodes are a legal history of the two epochs.
 fn are_legal(alloc: Global, nodes: &[u32]) -> Result<bool, Memory> {
-    let events = cycles_of(alloc, nodes)?;
+    let mut events = Items::new(alloc);
+    let mut cycle: u32 = 0;
+    for node in nodes {
+        let node = *node;
+        events.extend(&[
+            Event::Begin { cycle },
+            Event::Start { cycle, node },
+            Event::Finish { cycle, node },
+            Event::End { cycle },
+        ])?;
+        cycle = cycle.wrapping_add(1);
+    }
     let epochs = epochs_of(alloc, TWO_EPOCHS.as_slice())?;
     Ok(is_legal_history(epochs.as_slice(), events.as_slice()))
 }
@@ -145,7 +129,7 @@ fn cycles_follow_one_another(rt: HostRuntime) -> Result<(), Fail> {
         ([DUMMY, DUMMY, 0].as_slice(), true),
         ([DUMMY, DUMMY, 0, 0].as_slice(), false),
     ] {
-        assert_eq!(rt; are_legal(rt.alloc(), nodes)?, legal);
+        assert_eq!(rt; are_legal(rt.alloc(), nodes)?, legal, "{nodes:?}");
     }
     Ok(())
 }

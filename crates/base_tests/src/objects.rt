@@ -54,53 +54,37 @@ fn stores_fail_where_told(alloc: Global, files: &mut MemFiles, a: &Text, b: &Tex
         && is_file(files.file(a), b"90")
 }
 
-// A name of one letter.
-fn name(alloc: Global, letter: u8) -> Result<Text, Memory> {
-    Items::from_slice(alloc, &[letter])
-}
-
 #[test]
 fn files_in_memory_fail_where_told(rt: HostRuntime) -> Result<(), Fail> {
     let alloc = rt.alloc();
-    let a = name(alloc, b'a')?;
-    let b = name(alloc, b'b')?;
+    let a = Items::from_slice(alloc, b"a")?;
+    let b = Items::from_slice(alloc, b"b")?;
     let mut files = faulty(alloc, &a)?;
     assert!(rt; loads_fail_where_told(alloc, &mut files, &a, &b));
     assert!(rt; stores_fail_where_told(alloc, &mut files, &a, &b));
     Ok(())
 }
 
-// A file that is stored beside one that is there.
-fn sure_files_keep_both(alloc: Global, a: &Text, b: &Text) -> Result<bool, Memory> {
-    let mut files = SureFiles::new(alloc)?;
-    files.add_file(alloc, a, b"1")?;
-    Ok(
-        files.store(alloc, b, b"2") == Ok(())
-            && is_whole(files.load(alloc, b, 9), b"2")
-            && is_file(files.file(a), b"1"),
-    )
-}
-
+// A file is stored beside one that is there.
 #[test]
 fn sure_files_never_fail(rt: HostRuntime) -> Result<(), Fail> {
-    let a = name(rt.alloc(), b'a')?;
-    let b = name(rt.alloc(), b'b')?;
-    assert!(rt; sure_files_keep_both(rt.alloc(), &a, &b)?);
+    let alloc = rt.alloc();
+    let a = Items::from_slice(alloc, b"a")?;
+    let b = Items::from_slice(alloc, b"b")?;
+    let mut files = SureFiles::new(alloc)?;
+    files.add_file(alloc, &a, b"1")?;
+    assert!(rt; files.store(alloc, &b, b"2") == Ok(()));
+    assert!(rt; is_whole(files.load(alloc, &b, 9), b"2") && is_file(files.file(&a), b"1"));
     Ok(())
 }
 
-// Faults of the second write and the fourth.
-fn faulty_sink(alloc: Global) -> Result<MemSink, Memory> {
-    let mut out = MemSink::new(alloc)?;
-    out.fail_put(alloc, 2, 1)?;
-    out.fail_put(alloc, 4, 9)?;
-    Ok(out)
-}
-
+// The second write fails and the fourth.
 #[test]
 fn outputs_in_memory_fail_where_told(rt: HostRuntime) -> Result<(), Fail> {
     let alloc = rt.alloc();
-    let mut out = faulty_sink(alloc)?;
+    let mut out = MemSink::new(alloc)?;
+    out.fail_put(alloc, 2, 1)?;
+    out.fail_put(alloc, 4, 9)?;
     assert!(rt;
         out.put(alloc, b"ab") == Ok(())
             && out.put(alloc, b"cd") == Err(FileFail::Failed)
@@ -108,13 +92,8 @@ fn outputs_in_memory_fail_where_told(rt: HostRuntime) -> Result<(), Fail> {
             && out.put(alloc, b"fg") == Err(FileFail::Failed)
     );
     assert!(rt; out.bytes().as_slice() == b"abcefg".as_slice());
-    Ok(())
-}
-
-#[test]
-fn a_sure_output_never_fails(rt: HostRuntime) -> Result<(), Fail> {
-    let mut sure = SureSink::new(rt.alloc())?;
-    assert!(rt; sure.put(rt.alloc(), b"f") == Ok(()) && sure.bytes().as_slice() == b"f".as_slice());
+    let mut sure = SureSink::new(alloc)?;
+    assert!(rt; sure.put(alloc, b"f") == Ok(()) && sure.bytes().as_slice() == b"f".as_slice());
     Ok(())
 }
 

@@ -415,60 +415,33 @@ fn is_sound(
     Ok(is_sound_plan(&plan_of(alloc, 4, nodes, epochs)))
 }
 
-// The place of the first plan that is not judged so.
-fn first_unlike(alloc: Global, rows: &[PlanRow], sound: bool) -> Result<Option<usize>, Memory> {
-    for (place, (nodes, epochs)) in rows.iter().enumerate() {
-        if is_sound(alloc, nodes, 0, epochs)? != sound {
-            return Ok(Some(place));
-        }
-    }
-    Ok(None)
-}
-
-// The same of the sound ones.
-fn sound_unlike(alloc: Global) -> Result<Option<usize>, Memory> {
-    first_unlike(alloc, SOUND.as_slice(), true)
-}
-
-// The same of those that are unsound by a node.
-fn nodes_unlike(alloc: Global) -> Result<Option<usize>, Memory> {
-    first_unlike(alloc, UNSOUND_NODES.as_slice(), false)
-}
-
-// The same of those that are unsound by the shape.
-fn shapes_unlike(alloc: Global) -> Result<Option<usize>, Memory> {
-    first_unlike(alloc, UNSOUND_SHAPES.as_slice(), false)
-}
-
-// The same of those that are unsound by the forms.
-fn forms_unlike(alloc: Global) -> Result<Option<usize>, Memory> {
-    first_unlike(alloc, UNSOUND_FORMS.as_slice(), false)
-}
-
-// The same of those that are unsound by the entries.
-fn fresh_unlike(alloc: Global) -> Result<Option<usize>, Memory> {
-    first_unlike(alloc, UNSOUND_FRESH.as_slice(), false)
-}
+/// The plans of each table, and whether they are sound.
+const JUDGED: [(&'static [PlanRow], bool); 5] = [
+    (&SOUND, true),
+    (&UNSOUND_NODES, false),
+    (&UNSOUND_SHAPES, false),
+    (&UNSOUND_FORMS, false),
+    (&UNSOUND_FRESH, false),
+];
 
 #[test]
 fn plans_are_unsound_by_one_reason(rt: HostRuntime) -> Result<(), Fail> {
-    assert_eq!(rt; sound_unlike(rt.alloc())?, None);
-    assert_eq!(rt; nodes_unlike(rt.alloc())?, None);
-    assert_eq!(rt; shapes_unlike(rt.alloc())?, None);
-    assert_eq!(rt; forms_unlike(rt.alloc())?, None);
-    assert_eq!(rt; fresh_unlike(rt.alloc())?, None);
+    for (table, (rows, sound)) in JUDGED.iter().enumerate() {
+        for (place, (nodes, epochs)) in rows.iter().enumerate() {
+            let found = is_sound(rt.alloc(), nodes, 0, epochs)?;
+            assert_eq!(rt; found, *sound, "row {place} of table {table}");
+        }
+    }
     Ok(())
 }
 
-// Whether a sound plan may have `sources` further sources.
-fn may_have_sources(alloc: Global, sources: u32) -> Result<bool, Memory> {
-    is_sound(alloc, NODES.as_slice(), sources, &[EPOCH])
-}
-
+// A sound plan has three nodes.
 #[test]
 fn there_are_at_most_63_nodes(rt: HostRuntime) -> Result<(), Fail> {
-    assert!(rt; may_have_sources(rt.alloc(), 60)?);
-    assert!(rt; !may_have_sources(rt.alloc(), 61)?);
+    for (more, sound) in [(60, true), (61, false)] {
+        let found = is_sound(rt.alloc(), &NODES, more, &[EPOCH])?;
+        assert_eq!(rt; found, sound, "{more} sources more");
+    }
     Ok(())
 }
 
@@ -501,27 +474,10 @@ fn chain_epoch(
         ],
         fresh,
     };
-    epoch_of(alloc, row)
+    epoch_of(alloc, &row)
 }
 
-// `count` epochs of the chain.
-fn chain_epochs(
-    alloc: Global,
-    count: u32,
-    quantum: u32,
-    cycles: u32,
-    channels: u32,
-) -> Result<Items<Epoch>, Memory> {
-    let mut epochs = Items::new(alloc);
-    let mut first: u32 = 0;
-    for _ in 0..count {
-        epochs.push(chain_epoch(alloc, quantum, first, cycles, channels)?)?;
-        first = first.saturating_add(cycles);
-    }
-    Ok(epochs)
-}
-
-// Whether the plan of these epochs is sound.
+// Whether the plan of `count` epochs of the chain is sound.
 fn sums_fit(
     alloc: Global,
     count: u32,
@@ -529,18 +485,24 @@ fn sums_fit(
     cycles: u32,
     channels: u32,
 ) -> Result<bool, Memory> {
+    let mut epochs = Items::new(alloc);
+    let mut first: u32 = 0;
+    for _ in 0..count {
+        epochs.push(chain_epoch(alloc, quantum, first, cycles, channels)?)?;
+        first = first.saturating_add(cycles);
+    }
     let nodes = [
         (Sort::Source, 0, 0),
         (Sort::Gain(256), 0, 0),
         (Sort::Sink, 8, channels),
     ];
     let nodes = nodes_of(alloc, nodes.as_slice(), 0)?;
-    let epochs = chain_epochs(alloc, count, quantum, cycles, channels)?;
     Ok(is_sound_plan(&plan_of(alloc, quantum, nodes, epochs)))
 }
 
 #[test]
 fn sums_have_their_limits(rt: HostRuntime) -> Result<(), Fail> {
+    // The number of epochs, their quantum, cycles and channels, and whether all is within the limits.
     for (count, quantum, cycles, channels, fit) in [
         (2, 1, 233_016, 1, true),
         (2, 1, 233_017, 1, false),
@@ -549,10 +511,8 @@ fn sums_have_their_limits(rt: HostRuntime) -> Result<(), Fail> {
         (128, 8192, 1, 8, true),
         (129, 8192, 1, 8, false),
     ] {
-        assert_eq!(rt;
-            sums_fit(rt.alloc(), count, quantum, cycles, channels)?,
-            fit
-        );
+        let found = sums_fit(rt.alloc(), count, quantum, cycles, channels)?;
+        assert_eq!(rt; found, fit, "{count} epochs of {cycles} cycles");
     }
     Ok(())
 }

@@ -11,7 +11,7 @@ pub(crate) type LinkRow = ((u32, u32), (u32, u32), u32, u32, bool);
 pub(crate) type ActiveRow<'a> = (u32, u32, &'a [u32]);
 
 /// A shape. Its links are the first ones and then some more.
-#[derive(Clone, Copy, Drop)]
+#[derive(Drop)]
 pub(crate) struct ShapeRow<'a> {
     pub(crate) quantum: u32,
     pub(crate) first: u32,
@@ -26,7 +26,7 @@ pub(crate) struct ShapeRow<'a> {
 pub(crate) type FormRow = (u32, u32, u32, u32);
 
 /// An epoch. Each entry is a node and its channels.
-#[derive(Clone, Copy, Drop)]
+#[derive(Drop)]
 pub(crate) struct EpochRow<'a> {
     pub(crate) shape: ShapeRow<'a>,
     pub(crate) forms: &'a [FormRow],
@@ -34,7 +34,7 @@ pub(crate) struct EpochRow<'a> {
 }
 
 /// The kinds of the plans' nodes. A gain has its factor, a square its rate and its channels.
-#[derive(Clone, Copy, Drop)]
+#[derive(Drop)]
 pub(crate) enum Sort {
     Source,
     Square(u32, u32),
@@ -64,88 +64,53 @@ pub(crate) fn link(row: LinkRow) -> ShapeLink {
     }
 }
 
-// Adds links.
-fn add_links(links: &mut Items<ShapeLink>, rows: &[LinkRow]) -> Result<(), Memory> {
-    for row in rows {
-        links.push(link(*row))?;
-    }
-    Ok(())
-}
-
-// The links of a shape.
-fn links_of(alloc: Global, row: ShapeRow<'_>) -> Result<Items<ShapeLink>, Memory> {
-    let mut links = Items::new(alloc);
-    add_links(&mut links, row.links)?;
-    add_links(&mut links, row.more)?;
-    Ok(links)
-}
-
-// The node of a row.
-fn active(alloc: Global, row: ActiveRow<'_>) -> Result<ShapeNode, Memory> {
-    let (node, required, targets) = row;
-    Ok(ShapeNode {
-        node,
-        required,
-        targets: Items::from_slice(alloc, targets)?,
-    })
-}
-
-// The nodes of a shape.
-fn actives(alloc: Global, rows: &[ActiveRow<'_>]) -> Result<Items<ShapeNode>, Memory> {
-    let mut nodes = Items::new(alloc);
-    for row in rows {
-        nodes.push(active(alloc, *row)?)?;
-    }
-    Ok(nodes)
-}
-
 /// The shape of a row.
-pub(crate) fn shape_of(alloc: Global, row: ShapeRow<'_>) -> Result<Shape, Memory> {
-    let links = links_of(alloc, row)?;
+pub(crate) fn shape_of(alloc: Global, row: &ShapeRow<'_>) -> Result<Shape, Memory> {
+    let mut links = Items::new(alloc);
+    for rows in [row.links, row.more] {
+        for row in rows {
+            links.push(link(*row))?;
+        }
+    }
+    let mut nodes = Items::new(alloc);
+    for (node, required, targets) in row.nodes {
+        let targets = Items::from_slice(alloc, targets)?;
+        nodes.push(ShapeNode {
+            node: *node,
+            required: *required,
+            targets,
+        })?;
+    }
     Ok(Shape {
         quantum: row.quantum,
         first: row.first,
         cycles: row.cycles,
         driver: row.driver,
-        nodes: actives(alloc, row.nodes)?,
+        nodes,
         links,
     })
 }
 
-// The forms of rows.
-fn forms_of(alloc: Global, rows: &[FormRow]) -> Result<Items<PortForm>, Memory> {
+/// The epoch of a row.
+pub(crate) fn epoch_of(alloc: Global, row: &EpochRow<'_>) -> Result<Epoch, Memory> {
     let mut forms = Items::new(alloc);
-    for (node, port, rate, channels) in rows {
+    for (node, port, rate, channels) in row.forms {
+        let (node, port) = (*node, *port);
         forms.push(PortForm {
-            port: PortId {
-                node: *node,
-                port: *port,
-            },
+            port: PortId { node, port },
             rate: *rate,
             channels: *channels,
         })?;
     }
-    Ok(forms)
-}
-
-// The entries of rows.
-fn fresh_of(alloc: Global, rows: &[(u32, u32)]) -> Result<Items<Fresh>, Memory> {
     let mut fresh = Items::new(alloc);
-    for (node, channels) in rows {
+    for (node, channels) in row.fresh {
         fresh.push(Fresh {
             node: *node,
             channels: *channels,
         })?;
     }
-    Ok(fresh)
-}
-
-/// The epoch of a row.
-pub(crate) fn epoch_of(alloc: Global, row: EpochRow<'_>) -> Result<Epoch, Memory> {
-    let forms = forms_of(alloc, row.forms)?;
-    let fresh = fresh_of(alloc, row.fresh)?;
     Ok(Epoch {
-        shape: shape_of(alloc, row.shape)?,
+        shape: shape_of(alloc, &row.shape)?,
         forms,
         fresh,
     })
@@ -155,31 +120,31 @@ pub(crate) fn epoch_of(alloc: Global, row: EpochRow<'_>) -> Result<Epoch, Memory
 pub(crate) fn epochs_of(alloc: Global, rows: &[EpochRow<'_>]) -> Result<Items<Epoch>, Memory> {
     let mut epochs = Items::new(alloc);
     for row in rows {
-        epochs.push(epoch_of(alloc, *row)?)?;
+        epochs.push(epoch_of(alloc, row)?)?;
     }
     Ok(epochs)
 }
 
 // The node of a row. It has no name.
-fn node(alloc: Global, row: NodeRow) -> PlanNode {
+fn node(alloc: Global, row: &NodeRow) -> PlanNode {
     let (sort, rate, channels) = row;
     PlanNode {
         name: Items::new(alloc),
         kind: match sort {
             Sort::Source => Kind::Source,
             Sort::Square(rate, channels) => Kind::Square {
-                rate,
-                channels,
+                rate: *rate,
+                channels: *channels,
                 period: 1,
                 amp: 1,
             },
-            Sort::Gain(g) => Kind::Gain { g },
+            Sort::Gain(g) => Kind::Gain { g: *g },
             Sort::Sink => Kind::Sink,
             Sort::Dummy => Kind::Dummy,
         },
         k: 0,
-        rate,
-        channels,
+        rate: *rate,
+        channels: *channels,
     }
 }
 
@@ -191,10 +156,10 @@ pub(crate) fn nodes_of(
 ) -> Result<Items<PlanNode>, Memory> {
     let mut nodes = Items::new(alloc);
     for row in rows {
-        nodes.push(node(alloc, *row))?;
+        nodes.push(node(alloc, row))?;
     }
     for _ in 0..sources {
-        nodes.push(node(alloc, (Sort::Source, 0, 0)))?;
+        nodes.push(node(alloc, &(Sort::Source, 0, 0)))?;
     }
     Ok(nodes)
 }

@@ -2,9 +2,7 @@
 
 use crate::rows::{ShapeRow, link, shape_of};
 use graph_checks::{is_pooled_shape, is_sound_shape};
-use pw_graph::{DUMMY, PoolShape, Shape, pools_of};
-use pw_lists::Memory;
-use std::alloc::Global;
+use pw_graph::{DUMMY, PoolShape, pools_of};
 use std::test::Fail;
 
 /// A source 0, a split 1, a mixer 2 and a sink 3 that drives; two links go from the split to the
@@ -183,56 +181,38 @@ const UNSOUND_LINKS: [ShapeRow<'static>; 10] = [
     },
 ];
 
-// The place of the first shape that is not judged so.
-fn first_unlike(
-    alloc: Global,
-    rows: &[ShapeRow<'_>],
-    sound: bool,
-) -> Result<Option<usize>, Memory> {
-    for (place, row) in rows.iter().enumerate() {
-        if is_sound_shape(&shape_of(alloc, *row)?) != sound {
-            return Ok(Some(place));
-        }
-    }
-    Ok(None)
-}
-
-// The same of the sound ones.
-fn sound_unlike(alloc: Global) -> Result<Option<usize>, Memory> {
-    first_unlike(alloc, SOUND.as_slice(), true)
-}
-
-// The same of those that are unsound by their numbers or by a node.
-fn nodes_unlike(alloc: Global) -> Result<Option<usize>, Memory> {
-    first_unlike(alloc, UNSOUND_NODES.as_slice(), false)
-}
-
-// The same of those that are unsound by a link.
-fn links_unlike(alloc: Global) -> Result<Option<usize>, Memory> {
-    first_unlike(alloc, UNSOUND_LINKS.as_slice(), false)
-}
+/// The shapes of each table, and whether they are sound.
+const JUDGED: [(&'static [ShapeRow<'static>], bool); 3] = [
+    (&SOUND, true),
+    (&UNSOUND_NODES, false),
+    (&UNSOUND_LINKS, false),
+];
 
 #[test]
 fn shapes_are_unsound_by_one_reason(rt: HostRuntime) -> Result<(), Fail> {
-    assert_eq!(rt; sound_unlike(rt.alloc())?, None);
-    assert_eq!(rt; nodes_unlike(rt.alloc())?, None);
-    assert_eq!(rt; links_unlike(rt.alloc())?, None);
+    for (table, (rows, sound)) in JUDGED.iter().enumerate() {
+        for (place, row) in rows.iter().enumerate() {
+            let shape = shape_of(rt.alloc(), row)?;
+            assert_eq!(rt;
+                is_sound_shape(&shape),
+                *sound,
+                "row {place} of table {table}"
+            );
+        }
+    }
     Ok(())
 }
 
-// Whether a node may have `count` links to its driver, each at ports of its own.
-fn may_have_links(alloc: Global, count: u32) -> Result<bool, Memory> {
-    let mut shape = shape_of(alloc, PAIR)?;
-    for i in 0..count {
-        shape.links.push(link(((0, i), (1, i), 1, 2, false)))?;
-    }
-    Ok(is_sound_shape(&shape))
-}
-
+// A node may have so many links to its driver, each at ports of its own.
 #[test]
 fn there_are_at_most_256_links(rt: HostRuntime) -> Result<(), Fail> {
-    assert!(rt; may_have_links(rt.alloc(), 256)?);
-    assert!(rt; !may_have_links(rt.alloc(), 257)?);
+    for (count, sound) in [(256, true), (257, false)] {
+        let mut shape = shape_of(rt.alloc(), &PAIR)?;
+        for i in 0..count {
+            shape.links.push(link(((0, i), (1, i), 1, 2, false)))?;
+        }
+        assert_eq!(rt; is_sound_shape(&shape), sound, "{count} links");
+    }
     Ok(())
 }
 
@@ -256,60 +236,34 @@ const UNPOOLED: ShapeRow<'static> = ShapeRow {
     ..POOLED
 };
 
-// Whether a pool is that of this port, with this number of blocks and of links.
-fn is_pool(pool: &PoolShape, want: &((u32, u32), u32, usize)) -> bool {
-    let (port, blocks, links) = *want;
-    (pool.port.node, pool.port.port) == port
-        && pool.blocks == blocks
-        && pool.links.len() == links
-        && pool.channels == 1
-        && pool.words == 2
-}
-
-// Whether pools are just these.
+// Whether pools are just those of these ports, with these numbers of blocks and of links.
 fn are_pools(pools: &[PoolShape], wanted: &[((u32, u32), u32, usize)]) -> bool {
-    for (pool, want) in pools.iter().zip(wanted) {
-        if !is_pool(pool, want) {
+    for (pool, (port, blocks, links)) in pools.iter().zip(wanted) {
+        if (pool.port.node, pool.port.port) != *port
+            || (pool.blocks, pool.links.len()) != (*blocks, *links)
+            || (pool.channels, pool.words) != (1, 2)
+        {
             return false;
         }
     }
     pools.len() == wanted.len()
 }
 
-// Whether a shape has these pools.
-fn has_pools(
-    alloc: Global,
-    shape: &Shape,
-    wanted: &[((u32, u32), u32, usize)],
-) -> Result<bool, Memory> {
-    if !is_pooled_shape(shape) {
-        return Ok(false);
-    }
-    let pools = pools_of(alloc, shape)?;
-    Ok(are_pools(pools.as_slice(), wanted))
-}
-
-// The pools of the worked shape, by port.
-fn has_its_pools(alloc: Global) -> Result<bool, Memory> {
+// The pool of the split's left port and that of its source, where one link is delayed.
+#[test]
+fn pools_are_found_by_port(rt: HostRuntime) -> Result<(), Fail> {
     let wanted = [
         ((0, 0), 2, 2),
         ((1, 1), 2, 1),
         ((1, 2), 2, 1),
         ((2, 2), 2, 1),
     ];
-    let shape = shape_of(alloc, POOLED)?;
-    has_pools(alloc, &shape, wanted.as_slice())
-}
-
-// Whether one port may have links of other channels.
-fn may_mix_channels(alloc: Global) -> Result<bool, Memory> {
-    Ok(is_pooled_shape(&shape_of(alloc, UNPOOLED)?))
-}
-
-// The pool of the split's left port and that of its source, where one link is delayed.
-#[test]
-fn pools_are_found_by_port(rt: HostRuntime) -> Result<(), Fail> {
-    assert!(rt; has_its_pools(rt.alloc())?);
-    assert!(rt; !may_mix_channels(rt.alloc())?);
+    let shape = shape_of(rt.alloc(), &POOLED)?;
+    assert!(rt; is_pooled_shape(&shape));
+    let pools = pools_of(rt.alloc(), &shape)?;
+    assert!(rt; are_pools(pools.as_slice(), wanted.as_slice()));
+    // One port may not have links of other channels.
+    let shape = shape_of(rt.alloc(), &UNPOOLED)?;
+    assert!(rt; !is_pooled_shape(&shape));
     Ok(())
 }

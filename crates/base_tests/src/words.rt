@@ -4,22 +4,17 @@ use pw_graph::{
     ActivationStatus, AreaStatus, Event, NO_BLOCK, cycle_of, event_of, event_word, io_id_of,
     io_status_of, io_word, status_of, status_word,
 };
-use pw_lists::{Items, Memory, append_decimal};
-use std::alloc::Global;
+use pw_lists::{Items, append_decimal};
 use std::test::Fail;
 
 #[test]
-fn a_start_is_packed_into_its_word(rt: HostRuntime) {
+fn words_stand_for_events_statuses_and_areas(rt: HostRuntime) {
     let start = Event::Start { cycle: 1, node: 2 };
     assert_eq!(rt; event_word(&start), 530);
     let tick = Event::Tick { cycle: 7, late: 5 };
     for (event, late) in [(start, 9), (tick, 5)] {
-        assert!(rt; event_of(event_word(&event), late) == event);
+        assert!(rt; event_of(event_word(&event), late) == event, "late {late}");
     }
-}
-
-#[test]
-fn statuses_and_areas_are_packed_into_words(rt: HostRuntime) {
     let need = io_word(AreaStatus::NeedData.number(), NO_BLOCK);
     let have = io_word(AreaStatus::HaveData.number(), 1);
     assert_eq!(rt;
@@ -42,18 +37,12 @@ fn statuses_have_their_numbers(rt: HostRuntime) {
     );
 }
 
-// A text that ends with numbers.
-fn with_numbers(alloc: Global, numbers: &[u64]) -> Result<Items<u8>, Memory> {
-    let mut text = Items::from_slice(alloc, b"n ")?;
-    for number in numbers {
-        append_decimal(&mut text, *number)?;
-    }
-    Ok(text)
-}
-
 #[test]
 fn numbers_are_appended_in_decimal(rt: HostRuntime) -> Result<(), Fail> {
-    let text = with_numbers(rt.alloc(), [0, 4096, u64::MAX].as_slice())?;
+    let mut text = Items::from_slice(rt.alloc(), b"n ")?;
+    for number in [0, 4096, u64::MAX] {
+        append_decimal(&mut text, number)?;
+    }
     assert!(rt; text.as_slice() == b"n 0409618446744073709551615".as_slice());
     Ok(())
 }
