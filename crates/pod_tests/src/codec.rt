@@ -64,56 +64,37 @@ fn whole(alloc: Global, bytes: &[u8]) -> Option<Pod> {
     }
 }
 
-// Bytes, as what they are written back, and their lines.
-type Row<'a> = (&'a [u8], &'a [u8], &'a [u8]);
-
-// Whether bytes are read, dumped and written back so.
-fn goes_round(alloc: Global, row: Row<'_>) -> bool {
-    let (bytes, canonical, lines) = row;
-    match whole(alloc, bytes) {
-        Some(pod) => has_lines(alloc, &pod, lines) && is_written(alloc, &pod, canonical),
-        None => false,
-    }
-}
+/// Bytes, as what they are written back, and their lines.
+const ROUND: [(&[u8], &[u8], &[u8]); 9] = [
+    (&INT, &INT, b"int 5\n"),
+    (&PADDED, &INT, b"int 5\n"),
+    (
+        &RATE,
+        &RATE,
+        b"object 262147 3 1\n  prop 65539 0\n    int 48000\n",
+    ),
+    (&STRUCT, &STRUCT, b"struct 2\n  int 1\n  string \"a\"\n"),
+    (&RANGE, &RANGE, b"choice range 0 5 2\n  long 1\n  long -1\n"),
+    (&SEQUENCE, &SEQUENCE, SEQUENCE_LINES),
+    (&PADDED_SEQUENCE, &SEQUENCE, SEQUENCE_LINES),
+    (
+        &ROWS,
+        &ROWS,
+        b"struct 3\n  bytes \"00ff\"\n  string \"\\x22\\x00\\x5c\"\n  bitmap \"a5\"\n",
+    ),
+    (&ARRAY, &ARRAY, b"array 4 2\n  int 7\n  int -1\n"),
+];
 
 #[test]
 fn bytes_are_read_dumped_and_written_back(rt: HostRuntime) {
-    let mut padded = SEQUENCE;
-    padded[12] = 9;
-    let sequence =
-        b"sequence 0 1\n  control 2 1\n    object 262146 2 1\n      prop 16777217 0\n        int 128\n".as_slice();
-    for row in [
-        (INT.as_slice(), INT.as_slice(), b"int 5\n".as_slice()),
-        (PADDED.as_slice(), INT.as_slice(), b"int 5\n".as_slice()),
-        (
-            RATE.as_slice(),
-            RATE.as_slice(),
-            b"object 262147 3 1\n  prop 65539 0\n    int 48000\n".as_slice(),
-        ),
-        (
-            STRUCT.as_slice(),
-            STRUCT.as_slice(),
-            b"struct 2\n  int 1\n  string \"a\"\n".as_slice(),
-        ),
-        (
-            RANGE.as_slice(),
-            RANGE.as_slice(),
-            b"choice range 0 5 2\n  long 1\n  long -1\n".as_slice(),
-        ),
-        (SEQUENCE.as_slice(), SEQUENCE.as_slice(), sequence),
-        (padded.as_slice(), SEQUENCE.as_slice(), sequence),
-        (
-            ROWS.as_slice(),
-            ROWS.as_slice(),
-            b"struct 3\n  bytes \"00ff\"\n  string \"\\x22\\x00\\x5c\"\n  bitmap \"a5\"\n".as_slice(),
-        ),
-        (
-            ARRAY.as_slice(),
-            ARRAY.as_slice(),
-            b"array 4 2\n  int 7\n  int -1\n".as_slice(),
-        ),
-    ] {
-        assert!(rt; goes_round(rt.alloc(), row));
+    for (row, (bytes, canonical, lines)) in ROUND.iter().enumerate() {
+        match whole(rt.alloc(), bytes) {
+            Some(pod) => {
+                assert!(rt; has_lines(rt.alloc(), &pod, lines), "row {row}");
+                assert!(rt; is_written(rt.alloc(), &pod, canonical), "row {row}");
+            }
+            None => panic!(rt; "row {row} is not read"),
+        }
     }
 }
 
@@ -195,7 +176,16 @@ fn the_first_fault_is_told(rt: HostRuntime) {
         ),
         (NO_VALUE.as_slice(), PodFault::Short { offset: 16 }),
     ] {
-        assert!(rt; is_fault(rt.alloc(), bytes, fault));
+        let number = fault.number();
+        assert!(rt; is_fault(rt.alloc(), bytes, fault), "{number}: {bytes:?}");
+    }
+}
+
+#[test]
+fn each_proper_prefix_is_short(rt: HostRuntime) {
+    for end in 0..RATE.len() {
+        let short = PodFault::Short { offset: 0 };
+        assert!(rt; is_fault(rt.alloc(), &RATE[..end], short), "{end} bytes");
     }
 }
 
@@ -206,51 +196,36 @@ const SEQUENCE: [u8; 64] = [
     0, 0, 0, 0, 0, 0,
 ];
 
-// A choice of kind None without values.
-fn no_values(alloc: Global) -> Pod {
-    Pod::Choice {
+/// The same, with other padding.
+const PADDED_SEQUENCE: [u8; 64] = [
+    0x38, 0, 0, 0, 0x10, 0, 0, 0, 0, 0, 0, 0, 9, 0, 0, 0, 2, 0, 0, 0, 1, 0, 0, 0, 0x20, 0, 0, 0,
+    0x0f, 0, 0, 0, 2, 0, 4, 0, 2, 0, 0, 0, 1, 0, 0, 1, 0, 0, 0, 0, 4, 0, 0, 0, 4, 0, 0, 0, 0x80, 0,
+    0, 0, 0, 0, 0, 0,
+];
+
+const SEQUENCE_LINES: &[u8] =
+    b"sequence 0 1\n  control 2 1\n    object 262146 2 1\n      prop 16777217 0\n        int 128\n";
+
+// An array of Ints with a Bool in it is refused, and leaves the 24 bytes of another value.
+#[test]
+fn a_choice_without_values_is_written(rt: HostRuntime) -> Result<(), Fail> {
+    let none = Pod::Choice {
         kind: ChoiceKind::None,
         flags: 0,
         child: 1,
-        values: Items::new(alloc),
-    }
-}
-
-// An array of Ints with a Bool in it.
-fn mixed(alloc: Global) -> Result<Pod, Memory> {
-    let mut values = Items::new(alloc);
-    values.push(Pod::Bool(true))?;
-    Ok(Pod::Array { child: 4, values })
-}
-
-// Whether a value is written in 24 bytes, and another one refused that leaves them as they are.
-fn is_alone_written(alloc: Global, one: &Pod, other: &Pod) -> bool {
-    let mut bytes = Items::new(alloc);
-    let Ok(()) = write_pod(alloc, one, &mut bytes) else {
-        return false;
+        values: Items::new(rt.alloc()),
     };
-    if bytes.len() != 24 {
-        return false;
+    let mut bytes = Items::new(rt.alloc());
+    assert!(rt; write_pod(rt.alloc(), &none, &mut bytes).is_ok() && bytes.len() == 24);
+    let mut values = Items::new(rt.alloc());
+    values.push(Pod::Bool(true))?;
+    let mixed = Pod::Array { child: 4, values };
+    match write_pod(rt.alloc(), &mixed, &mut bytes) {
+        Ok(()) => panic!(rt; "a Bool was written among Ints"),
+        Err(fault) => assert_eq!(rt; fault.number(), WriteFault::Unwritable.number()),
     }
-    match write_pod(alloc, other, &mut bytes) {
-        Ok(()) => false,
-        Err(fault) => fault.number() == WriteFault::Unwritable.number() && bytes.len() == 24,
-    }
-}
-
-#[test]
-fn a_choice_without_values_is_written(rt: HostRuntime) -> Result<(), Fail> {
-    let mixed = mixed(rt.alloc())?;
-    let none = no_values(rt.alloc());
-    assert!(rt; is_alone_written(rt.alloc(), &none, &mixed));
+    assert_eq!(rt; bytes.len(), 24);
     Ok(())
-}
-
-#[test]
-fn each_proper_prefix_is_short(rt: HostRuntime) {
-    for end in 0..RATE.len() {
-        assert!(rt; is_fault(rt.alloc(), &RATE[..end], PodFault::Short { offset: 0 }));
-    }
 }
 
 /// Two bytes, as Bytes, with a String and a Bitmap after them in a Struct.
@@ -265,33 +240,23 @@ const ARRAY: [u8; 24] = [
     0x10, 0, 0, 0, 0x0d, 0, 0, 0, 4, 0, 0, 0, 4, 0, 0, 0, 7, 0, 0, 0, 255, 255, 255, 255,
 ];
 
-// How many of the bytes are read, 0 where they are at fault.
-fn length_of(alloc: Global, bytes: &[u8]) -> usize {
-    match read_pod(alloc, bytes) {
-        Ok((_pod, length)) => length,
-        Err(_fault) => 0,
-    }
-}
-
 #[test]
 fn what_stands_behind_is_not_read(rt: HostRuntime) {
     let bytes = [4u8, 0, 0, 0, 4, 0, 0, 0, 5, 0, 0, 0, 0, 0, 0, 0, 1];
-    assert_eq!(rt; length_of(rt.alloc(), bytes.as_slice()), 16);
+    match read_pod(rt.alloc(), bytes.as_slice()) {
+        Ok((_pod, length)) => assert_eq!(rt; length, 16),
+        Err(_fault) => panic!(rt; "no Int was read"),
+    }
 }
 
-// A choice of kind None of 36 Ints of four bytes that are 1.
-fn many_values(alloc: Global) -> Result<Items<u8>, Memory> {
-    let mut bytes = Items::new(alloc);
+// The choice has 36 Ints of four bytes that are 1.
+#[test]
+fn a_choice_of_kind_none_may_have_more_values(rt: HostRuntime) -> Result<(), Fail> {
+    let mut bytes = Items::new(rt.alloc());
     for number in [160u32, 19, 0, 0, 4, 3] {
         bytes.extend(number.to_le_bytes().as_slice())?;
     }
     bytes.extend_filled(144, 1)?;
-    Ok(bytes)
-}
-
-#[test]
-fn a_choice_of_kind_none_may_have_more_values(rt: HostRuntime) -> Result<(), Fail> {
-    let bytes = many_values(rt.alloc())?;
     match whole(rt.alloc(), bytes.as_slice()) {
         Some(Pod::Choice { values, .. }) => assert_eq!(rt; (bytes.len(), values.len()), (168, 36)),
         _ => panic!(rt; "no choice was read"),
@@ -326,6 +291,6 @@ fn values_of_one_size_have_their_lines(rt: HostRuntime) {
         (Pod::Fd(-1), b"fd -1\n".as_slice()),
     ];
     for (pod, lines) in table.as_slice() {
-        assert!(rt; has_lines(rt.alloc(), pod, lines));
+        assert!(rt; has_lines(rt.alloc(), pod, lines), "{lines:?}");
     }
 }

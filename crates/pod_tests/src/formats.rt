@@ -86,14 +86,6 @@ fn number_in(value: &Pod) -> i64 {
     }
 }
 
-/// The first number, the last one and how many they are.
-fn ends(alts: &[Pod]) -> [i64; 3] {
-    match (alts.first(), alts.last()) {
-        (Some(first), Some(last)) => [number_in(first), number_in(last), alts.len() as i64],
-        _ => [0; 3],
-    }
-}
-
 /// The kind of a choice, its pick, and its first number, its last one and its step, or how many
 /// they are.
 fn told(choice: &Choice) -> [i64; 5] {
@@ -107,48 +99,31 @@ fn told(choice: &Choice) -> [i64; 5] {
             step,
             ..
         } => [3, *pick, *min, *max, *step],
-        Choice::Enum { pick, alts } => {
-            let [first, last, count] = ends(alts.as_slice());
-            [4, number_in(pick), first, last, count]
-        }
+        Choice::Enum { pick, alts } => match (alts.as_slice().first(), alts.as_slice().last()) {
+            (Some(first), Some(last)) => [
+                4,
+                number_in(pick),
+                number_in(first),
+                number_in(last),
+                alts.len() as i64,
+            ],
+            _ => [0; 5],
+        },
     }
 }
 
-/// The same of a choice that may be there.
-fn told_found(found: Option<Choice>) -> [i64; 5] {
-    match found {
-        Some(choice) => told(&choice),
-        None => [0; 5],
-    }
-}
-
-/// The copy of the choice that is read from these values.
-fn copied(alloc: Global, values: Given) -> Result<Choice, FormatFault>
-    ensures { IfOk result IsSound }
-{
-    let choice = given(alloc, values)?;
-    Ok(choice.copy(alloc)?)
-}
-
-/// The intersection of two choices, as a row.
+/// The intersection of two choices, of which the first is copied, as a row.
 fn met(alloc: Global, a: Given, b: Given) -> Result<[i64; 5], FormatFault> {
-    let a = copied(alloc, a)?;
+    let a = given(alloc, a)?.copy(alloc)?;
     let b = given(alloc, b)?;
-    Ok(told_found(meet(alloc, &a, &b)?))
+    match meet(alloc, &a, &b)? {
+        Some(choice) => Ok(told(&choice)),
+        None => Ok([0; 5]),
+    }
 }
 
 /// Two choices, and what they have in common.
 type Pair = (Given, Given, [i64; 5]);
-
-/// The place of the first pair that meets otherwise.
-fn first_unlike(alloc: Global, pairs: &[Pair]) -> Result<Option<usize>, FormatFault> {
-    for (place, (a, b, want)) in pairs.iter().enumerate() {
-        if met(alloc, *a, *b)? != *want {
-            return Ok(Some(place));
-        }
-    }
-    Ok(None)
-}
 
 const INT: Wide = Wide::Int;
 
@@ -325,80 +300,25 @@ const ENDS: [Pair; 5] = [
     ),
 ];
 
-/// The same of the pairs in `STEPS`.
-fn steps_unlike(alloc: Global) -> Result<Option<usize>, FormatFault> {
-    first_unlike(alloc, STEPS.as_slice())
-}
+/// The tables of pairs, and what each shows.
+const PAIRS: [(&str, &[Pair]); 7] = [
+    ("steps meet in their residues", &STEPS),
+    ("ranges meet in their overlap", &RANGES),
+    ("ranges meet steps", &RANGES_AND_STEPS),
+    ("values meet in their order", &VALUES),
+    ("one value meets itself at most", &ONE_VALUE),
+    ("numbers of other types do not meet", &OTHER_TYPES),
+    ("numbers meet at the ends of their type", &ENDS),
+];
 
 #[test]
-fn steps_meet_in_their_residues(rt: HostRuntime) -> Result<(), Fail> {
-    assert_eq!(rt; steps_unlike(rt.alloc())?, None);
-    Ok(())
-}
-
-/// The same of the pairs in `RANGES`.
-fn ranges_unlike(alloc: Global) -> Result<Option<usize>, FormatFault> {
-    first_unlike(alloc, RANGES.as_slice())
-}
-
-#[test]
-fn ranges_meet_in_their_overlap(rt: HostRuntime) -> Result<(), Fail> {
-    assert_eq!(rt; ranges_unlike(rt.alloc())?, None);
-    Ok(())
-}
-
-/// The same of the pairs in `RANGES_AND_STEPS`.
-fn ranges_and_steps_unlike(alloc: Global) -> Result<Option<usize>, FormatFault> {
-    first_unlike(alloc, RANGES_AND_STEPS.as_slice())
-}
-
-#[test]
-fn ranges_meet_steps(rt: HostRuntime) -> Result<(), Fail> {
-    assert_eq!(rt; ranges_and_steps_unlike(rt.alloc())?, None);
-    Ok(())
-}
-
-/// The same of the pairs in `VALUES`.
-fn values_unlike(alloc: Global) -> Result<Option<usize>, FormatFault> {
-    first_unlike(alloc, VALUES.as_slice())
-}
-
-#[test]
-fn values_meet_in_their_order(rt: HostRuntime) -> Result<(), Fail> {
-    assert_eq!(rt; values_unlike(rt.alloc())?, None);
-    Ok(())
-}
-
-/// The same of the pairs in `ONE_VALUE`.
-fn one_value_unlike(alloc: Global) -> Result<Option<usize>, FormatFault> {
-    first_unlike(alloc, ONE_VALUE.as_slice())
-}
-
-#[test]
-fn one_value_meets_itself_at_most(rt: HostRuntime) -> Result<(), Fail> {
-    assert_eq!(rt; one_value_unlike(rt.alloc())?, None);
-    Ok(())
-}
-
-/// The same of the pairs in `OTHER_TYPES`.
-fn other_types_unlike(alloc: Global) -> Result<Option<usize>, FormatFault> {
-    first_unlike(alloc, OTHER_TYPES.as_slice())
-}
-
-#[test]
-fn numbers_of_other_types_do_not_meet(rt: HostRuntime) -> Result<(), Fail> {
-    assert_eq!(rt; other_types_unlike(rt.alloc())?, None);
-    Ok(())
-}
-
-/// The same of the pairs in `ENDS`.
-fn ends_unlike(alloc: Global) -> Result<Option<usize>, FormatFault> {
-    first_unlike(alloc, ENDS.as_slice())
-}
-
-#[test]
-fn numbers_meet_at_the_ends_of_their_type(rt: HostRuntime) -> Result<(), Fail> {
-    assert_eq!(rt; ends_unlike(rt.alloc())?, None);
+fn choices_meet_in_what_they_have_in_common(rt: HostRuntime) -> Result<(), Fail> {
+    for (title, pairs) in PAIRS {
+        for (row, (a, b, want)) in pairs.iter().enumerate() {
+            let found = met(rt.alloc(), *a, *b)?;
+            assert_eq!(rt; found, *want, "{title}: row {row}");
+        }
+    }
     Ok(())
 }
 
@@ -458,12 +378,12 @@ fn written(alloc: Global, format: &Format) -> Result<Items<u8>, Fail>
     Ok(bytes)
 }
 
-/// The common format of two, spelled, and its fixation; the key where they clash.
-fn filtered(alloc: Global, a: &Format, b: &Format) -> Result<(Items<u8>, Items<u8>), Fail>
-    requires a { IsSoundFormat a.now }
-    requires b { IsSoundFormat b.now }
-{
-    match filter(alloc, a, b)? {
+/// The common format of two that bytes spell, of which the first is copied, spelled, and its
+/// fixation; the key where they clash.
+fn both(alloc: Global, a: &[u8], b: &[u8]) -> Result<(Items<u8>, Items<u8>), Fail> {
+    let a = read(alloc, a)?.copy(alloc)?;
+    let b = read(alloc, b)?;
+    match filter(alloc, &a, &b)? {
         Filtered::Common(format) => Ok((
             written(alloc, &format)?,
             written(alloc, &fixate(alloc, &format)?)?,
@@ -476,14 +396,6 @@ fn filtered(alloc: Global, a: &Format, b: &Format) -> Result<(Items<u8>, Items<u
     }
 }
 
-/// The same of two that bytes spell, of which the first is copied.
-fn both(alloc: Global, a: &[u8], b: &[u8]) -> Result<(Items<u8>, Items<u8>), Fail> {
-    let a = read(alloc, a)?;
-    let b = read(alloc, b)?;
-    let copied = a.copy(alloc)?;
-    filtered(alloc, &copied, &b)
-}
-
 #[test]
 fn the_filter_spells_the_common_format(rt: HostRuntime) -> Result<(), Fail> {
     let (common, fixed) = both(rt.alloc(), &FROM_44100, &TWO_RATES)?;
@@ -493,6 +405,7 @@ fn the_filter_spells_the_common_format(rt: HostRuntime) -> Result<(), Fail> {
 
 #[test]
 fn formats_clash_at_a_key_or_by_their_type(rt: HostRuntime) -> Result<(), Fail> {
+    // Two formats, and the key where they clash, nothing for other types, or what both have in common.
     for (a, b, want) in [
         (MANDATORY, FIXED, [5].as_slice()),
         (FIXED, MANDATORY, [5].as_slice()),
@@ -500,7 +413,7 @@ fn formats_clash_at_a_key_or_by_their_type(rt: HostRuntime) -> Result<(), Fail> 
         (FIXED, FIXED, FIXED.as_slice()),
     ] {
         let (common, _fixed) = both(rt.alloc(), &a, &b)?;
-        assert!(rt; common.as_slice() == want);
+        assert!(rt; common.as_slice() == want, "{a:?} {b:?}");
     }
     Ok(())
 }
@@ -515,6 +428,7 @@ fn fault_of(alloc: Global, values: Given) -> u8 {
 
 #[test]
 fn values_at_fault_are_refused_by_cause(rt: HostRuntime) {
+    // The kind of a choice, its Ints, and the number of their fault.
     for (kind, numbers, number) in [
         (ChoiceKind::Flags, [1, 2].as_slice(), 3),
         (RANGE, [1, 2].as_slice(), 4),
@@ -523,6 +437,7 @@ fn values_at_fault_are_refused_by_cause(rt: HostRuntime) {
         (STEP, [1, 1, 9, 0].as_slice(), 5),
         (ChoiceKind::Flags, [].as_slice(), 6),
     ] {
-        assert_eq!(rt; fault_of(rt.alloc(), (kind, INT, numbers)), number);
+        let found = fault_of(rt.alloc(), (kind, INT, numbers));
+        assert_eq!(rt; found, number, "{numbers:?}");
     }
 }

@@ -9,38 +9,28 @@ use std::test::Fail;
 // A control: its offset, its kind, and the keys and the Ints of its object's properties.
 type ControlRow<'a> = (u32, u32, &'a [(u32, i32)]);
 
-// The properties of a control's object.
-fn props_of(alloc: Global, rows: &[(u32, i32)]) -> Result<Items<Prop>, Memory> {
-    let mut props = Items::new(alloc);
-    for (key, number) in rows {
-        props.push(Prop {
-            key: *key,
-            flags: 0,
-            value: Pod::Int(*number),
-        })?;
-    }
-    Ok(props)
-}
-
-// A control.
-fn control_of(alloc: Global, row: ControlRow<'_>) -> Result<Control, Memory> {
-    let (offset, kind, props) = row;
-    Ok(Control {
-        offset,
-        kind,
-        value: Pod::Object {
-            object: 0x40002,
-            id: 2,
-            props: props_of(alloc, props)?,
-        },
-    })
-}
-
 // A sequence of controls.
 fn sequence_of(alloc: Global, rows: &[ControlRow<'_>]) -> Result<Pod, Memory> {
     let mut controls = Items::new(alloc);
-    for row in rows {
-        controls.push(control_of(alloc, *row)?)?;
+    for (offset, kind, numbers) in rows {
+        let mut props = Items::new(alloc);
+        for (key, number) in *numbers {
+            props.push(Prop {
+                key: *key,
+                flags: 0,
+                value: Pod::Int(*number),
+            })?;
+        }
+        let value = Pod::Object {
+            object: 0x40002,
+            id: 2,
+            props,
+        };
+        controls.push(Control {
+            offset: *offset,
+            kind: *kind,
+            value,
+        })?;
     }
     Ok(Pod::Sequence { unit: 0, controls })
 }
