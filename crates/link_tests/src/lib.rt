@@ -12,5 +12,3 @@ mod linking;
 mod nodes;
 #[cfg(test)]
 mod offers;
-#[cfg(test)]
-mod release;

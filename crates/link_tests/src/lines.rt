@@ -11,7 +11,7 @@ use pw_graph::PortId;
 use pw_lists::Memory;
 
 /// A line; a port is given by its node and its number.
-#[derive(Clone, Copy, Drop)]
+#[derive(Drop)]
 pub enum Line {
     Link((u32, u32), (u32, u32)),
     /// The last is the set of nodes that keep their formats.
@@ -24,7 +24,7 @@ pub enum Line {
 }
 
 /// What it does.
-#[derive(Clone, Copy, PartialEq, Drop)]
+#[derive(PartialEq, Drop)]
 pub enum Did {
     /// A link with this rate, these channels and this number of buffers.
     Made(u32, u32, u32),
@@ -156,20 +156,20 @@ fn port_of(place: (u32, u32)) -> PortId {
 }
 
 /// What one line does.
-fn run_line(graph: &mut Graph, line: Line) -> Result<Did, Memory> {
+fn run_line(graph: &mut Graph, line: &Line) -> Result<Did, Memory> {
     match line {
-        Line::Link(from, to) => graph.link(port_of(from), port_of(to)),
-        Line::Unlink(from, to, keep) => Ok(graph.unlink(port_of(from), port_of(to), keep)),
-        Line::Buffers(port, n) => Ok(graph.set_buffers(port_of(port), n)),
-        Line::Form(port) => Ok(graph.form(port_of(port))),
-        Line::Offer(port) => graph.offer(port_of(port)),
+        Line::Link(from, to) => graph.link(port_of(*from), port_of(*to)),
+        Line::Unlink(from, to, keep) => Ok(graph.unlink(port_of(*from), port_of(*to), *keep)),
+        Line::Buffers(port, n) => Ok(graph.set_buffers(port_of(*port), *n)),
+        Line::Form(port) => Ok(graph.form(port_of(*port))),
+        Line::Offer(port) => graph.offer(port_of(*port)),
     }
 }
 
 /// The place of the first of some lines that does otherwise than said beside it.
 pub fn first_unlike(graph: &mut Graph, lines: &[(Line, Did)]) -> Result<Option<usize>, Memory> {
     for (place, (line, did)) in lines.iter().enumerate() {
-        if run_line(graph, *line)? != *did {
+        if run_line(graph, line)? != *did {
             return Ok(Some(place));
         }
     }

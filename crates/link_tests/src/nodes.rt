@@ -14,7 +14,9 @@ use pw_graph::{Kind, PortId};
 use pw_lists::{Items, Memory};
 use std::alloc::Global;
 
-/// A node to come; a source has its rate and its channels.
+/// A node to come: a source with its rate and its channels, a gain of 1, a mixer of its first input
+/// and half of its second, a delay of 10 frames, a map of two channels to three, a split of two
+/// channels, a sink, a meter.
 #[derive(Clone, Copy, Drop)]
 pub enum Node {
     Source(u32, u32),
@@ -105,50 +107,6 @@ impl Graph {
         })
     }
 
-    /// A source of a file with this rate and these channels.
-    fn source(self, rate: u32, channels: u32) -> Result<Graph, Memory>
-        requires rate { IsRate rate }
-        requires channels { IsChannels channels }
-    {
-        self.with(&Kind::Source, rate, channels)
-    }
-
-    /// A gain of 1.
-    fn gain(self) -> Result<Graph, Memory> {
-        self.with(&Kind::Gain { g: 256 }, 0, 0)
-    }
-
-    /// A mixer of its first input and half of its second.
-    fn mix2(self) -> Result<Graph, Memory> {
-        self.with(&Kind::Mix2 { ga: 256, gb: 128 }, 0, 0)
-    }
-
-    /// A delay of 10 frames.
-    fn delay(self) -> Result<Graph, Memory> {
-        self.with(&Kind::Delay { frames: 10 }, 0, 0)
-    }
-
-    /// A map of two channels to three.
-    fn map(self) -> Result<Graph, Memory> {
-        let list = Items::from_slice(self.alloc, [1u32, 0, 1].as_slice())?;
-        self.with(&Kind::Map { channels: 2, list }, 0, 0)
-    }
-
-    /// A split of two channels.
-    fn split(self) -> Result<Graph, Memory> {
-        self.with(&Kind::Split, 0, 0)
-    }
-
-    /// A sink.
-    fn sink(self) -> Result<Graph, Memory> {
-        self.with(&Kind::Sink, 0, 0)
-    }
-
-    /// A meter.
-    fn meter(self) -> Result<Graph, Memory> {
-        self.with(&Kind::Meter, 0, 0)
-    }
-
     // A node of a row. A source whose numbers are out of range is no node.
     fn one_more(self, node: Node) -> Result<Graph, Memory> {
         match node {
@@ -156,15 +114,18 @@ impl Graph {
                 if rate < 1 || rate > 384_000 || channels < 1 || channels > 8 {
                     return Err(Memory);
                 }
-                self.source(rate, channels)
+                self.with(&Kind::Source, rate, channels)
             }
-            Node::Gain => self.gain(),
-            Node::Mix2 => self.mix2(),
-            Node::Delay => self.delay(),
-            Node::Map => self.map(),
-            Node::Split => self.split(),
-            Node::Sink => self.sink(),
-            Node::Meter => self.meter(),
+            Node::Gain => self.with(&Kind::Gain { g: 256 }, 0, 0),
+            Node::Mix2 => self.with(&Kind::Mix2 { ga: 256, gb: 128 }, 0, 0),
+            Node::Delay => self.with(&Kind::Delay { frames: 10 }, 0, 0),
+            Node::Map => {
+                let list = Items::from_slice(self.alloc, [1u32, 0, 1].as_slice())?;
+                self.with(&Kind::Map { channels: 2, list }, 0, 0)
+            }
+            Node::Split => self.with(&Kind::Split, 0, 0),
+            Node::Sink => self.with(&Kind::Sink, 0, 0),
+            Node::Meter => self.with(&Kind::Meter, 0, 0),
         }
     }
 

@@ -76,29 +76,6 @@ fn offered_by(
     ))
 }
 
-/// What a file does to the offer of a new node's first port, and what is offered then.
-fn narrowed_by(
-    alloc: Global,
-    kind: &Kind,
-    rate: u32,
-    channels: u32,
-    file: &Format,
-) -> Result<(Narrowed, Form), Memory>
-    requires kind { IsInRange kind.now }
-    requires file { HasFileNumbers kind.now rate channels }
-    requires port { 0 < port_count kind.now }
-    requires sound { IsSoundFormat file.now }
-{
-    let mut ports = one(alloc, kind, rate, channels)?;
-    let port = PortId { node: 0, port: 0 };
-    let narrowed = ports.offer(port, file)?;
-    let offered = ports.offered(alloc, port)?;
-    Ok((
-        narrowed,
-        (numbers_at(&offered, 65539), numbers_at(&offered, 65540)),
-    ))
-}
-
 /// The pick, the least and the greatest number of a Range of Ints, else nothing.
 fn range_of(choice: &Choice) -> Option<(i64, i64, i64)> {
     match choice {
@@ -112,62 +89,21 @@ fn range_of(choice: &Choice) -> Option<(i64, i64, i64)> {
     }
 }
 
-/// The Range of the counts of buffers at a port.
-fn range_at(ports: &Ports, port: PortId) -> Option<(i64, i64, i64)>
-    requires { IsPort ports.now port }
-{
-    range_of(&ports.buffers(port))
-}
-
-/// The counts of buffers of a new sink before and after 3 are set, and whether it has a format.
-fn buffers_of(
-    alloc: Global,
-) -> Result<(Option<(i64, i64, i64)>, Option<(i64, i64, i64)>, bool), Memory> {
-    let mut ports = one(alloc, &Kind::Sink, 0, 0)?;
-    let sink = PortId { node: 0, port: 0 };
-    let before = range_at(&ports, sink);
-    ports.set_buffers(sink, 3);
-    let copied = ports.copy(alloc)?;
-    Ok((before, range_at(&copied, sink), copied.has_format(sink)))
-}
-
-/// What a map of two channels to three offers at its input and at its output.
-fn map_offers(alloc: Global) -> Result<[(Form, Option<(u32, u32)>); 2], Memory> {
-    let list = Items::from_slice(alloc, [1u32, 0, 0].as_slice())?;
-    let map = Kind::Map { channels: 2, list };
-    Ok([
-        offered_by(alloc, &map, 0, 0, 0)?,
-        offered_by(alloc, &map, 0, 0, 1)?,
-    ])
-}
-
-/// What the two ports of a split and the port of a sink offer.
-fn free_offers(alloc: Global) -> Result<[(Form, Option<(u32, u32)>); 3], Memory> {
-    Ok([
-        offered_by(alloc, &Kind::Split, 0, 0, 0)?,
-        offered_by(alloc, &Kind::Split, 0, 0, 2)?,
-        offered_by(alloc, &Kind::Sink, 0, 0, 0)?,
-    ])
-}
-
 #[test]
 fn kinds_offer_their_rates_and_channels(rt: HostRuntime) -> Result<(), Fail> {
+    let alloc = rt.alloc();
     let any = Some((1, 384_000));
     assert!(rt;
-        offered_by(rt.alloc(), &Kind::Source, 44100, 2, 0)?
+        offered_by(alloc, &Kind::Source, 44100, 2, 0)?
             == ((Some((44100, 44100)), Some((2, 2))), Some((44100, 2)))
     );
-    assert!(rt;
-        map_offers(rt.alloc())? == [((any, Some((2, 2))), None), ((any, Some((3, 3))), None)]
-    );
-    assert!(rt;
-        free_offers(rt.alloc())?
-            == [
-                ((any, Some((2, 2))), None),
-                ((any, Some((1, 1))), None),
-                ((any, Some((1, 8))), None)
-            ]
-    );
+    let list = Items::from_slice(alloc, [1u32, 0, 0].as_slice())?;
+    let map = Kind::Map { channels: 2, list };
+    assert!(rt; offered_by(alloc, &map, 0, 0, 0)? == ((any, Some((2, 2))), None));
+    assert!(rt; offered_by(alloc, &map, 0, 0, 1)? == ((any, Some((3, 3))), None));
+    assert!(rt; offered_by(alloc, &Kind::Split, 0, 0, 0)? == ((any, Some((2, 2))), None));
+    assert!(rt; offered_by(alloc, &Kind::Split, 0, 0, 2)? == ((any, Some((1, 1))), None));
+    assert!(rt; offered_by(alloc, &Kind::Sink, 0, 0, 0)? == ((any, Some((1, 8))), None));
     Ok(())
 }
 
@@ -185,7 +121,14 @@ fn narrowed_as(
     requires port { 0 < port_count kind.now }
 {
     let file = read(alloc, bytes)?;
-    Ok(narrowed_by(alloc, kind, rate, channels, &file)?)
+    let mut ports = one(alloc, kind, rate, channels)?;
+    let port = PortId { node: 0, port: 0 };
+    let narrowed = ports.offer(port, &file)?;
+    let offered = ports.offered(alloc, port)?;
+    Ok((
+        narrowed,
+        (numbers_at(&offered, 65539), numbers_at(&offered, 65540)),
+    ))
 }
 
 #[test]
@@ -211,8 +154,15 @@ fn files_narrow_an_offer(rt: HostRuntime) -> Result<(), Fail> {
     Ok(())
 }
 
+/// The counts of buffers of a new sink before and after 3 are set.
 #[test]
 fn buffers_are_counted(rt: HostRuntime) -> Result<(), Fail> {
-    assert!(rt; buffers_of(rt.alloc())? == (Some((2, 1, 8)), Some((3, 3, 3)), false));
+    let mut ports = one(rt.alloc(), &Kind::Sink, 0, 0)?;
+    let sink = PortId { node: 0, port: 0 };
+    assert!(rt; range_of(&ports.buffers(sink)) == Some((2, 1, 8)));
+    ports.set_buffers(sink, 3);
+    let copied = ports.copy(rt.alloc())?;
+    assert!(rt; range_of(&copied.buffers(sink)) == Some((3, 3, 3)));
+    assert!(rt; !copied.has_format(sink));
     Ok(())
 }
