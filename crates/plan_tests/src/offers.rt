@@ -34,10 +34,12 @@ const MONO: Silence = Silence::Mono { frames: 1 };
 const STEREO: Silence = Silence::Stereo { frames: 1 };
 
 /// What comes of a text.
-#[derive(Clone, Copy, Debug, PartialEq, Eq, Drop)]
+#[derive(Debug, PartialEq, Drop)]
 enum Came {
     /// Some bytes spell no format.
     NoFormat,
+    /// A line is refused.
+    Refused(InputFault),
     Fault(TextFault),
     /// A plan, and what its last link line did.
     Last(Option<LineOutcome>),
@@ -53,8 +55,8 @@ fn format_in(alloc: Global, bytes: &[u8]) -> Option<Format>
     }
 }
 
-// The formats that these bytes spell.
-fn formats_in(alloc: Global, offers: &[&[u8]]) -> Option<Items<Format>>
+/// The formats that these bytes spell.
+pub fn formats_in(alloc: Global, offers: &[&[u8]]) -> Option<Items<Format>>
     ensures { IfSome result (All IsSoundFormat) }
 {
     let mut formats = Items::new(alloc);
@@ -75,105 +77,131 @@ fn comes(alloc: Global, text: &str, sources: &[Silence], offers: &[&[u8]]) -> Ca
     };
     match plan_offered(alloc, text, sources, formats.as_slice()) {
         Ok(plan) => Came::Last(plan.lines.as_slice().last().map(|line| line.outcome)),
+        Err(TextFault::Inputs(fault)) => Came::Refused(fault),
         Err(fault) => Came::Fault(fault),
     }
 }
 
-// Of a line that is refused.
-fn refused(fault: InputFault) -> Came {
-    Came::Fault(TextFault::Inputs(fault))
-}
+/// A last link that is made, at 48000 frames a second, of one channel and of two.
+const LINKED: Came = Came::Last(Some(LineOutcome::Linked {
+    rate: 48_000,
+    channels: 1,
+    buffers: 2,
+}));
 
-// Of an `offer` line whose rate clashes.
-fn clash(line: u32) -> Came {
-    let key = RATE_KEY;
-    refused(InputFault::Clash { line, key })
-}
+const LINKED_STEREO: Came = Came::Last(Some(LineOutcome::Linked {
+    rate: 48_000,
+    channels: 2,
+    buffers: 2,
+}));
 
-// Of a last link that is made, at 48000 frames a second.
-fn linked(channels: u32) -> Came {
-    let (rate, buffers) = (48_000, 2);
-    Came::Last(Some(LineOutcome::Linked {
-        rate,
-        channels,
-        buffers,
-    }))
-}
+/// A text, the waves of its sources, the bytes of its offers, and what comes of it.
+type Row = (
+    &'static str,
+    &'static [Silence],
+    &'static [&'static [u8]],
+    Came,
+);
+
+/// The first line that is refused is named.
+const LINES: [Row; 4] = [
+    (
+        "source s s.wav\n\nsource t t.wav\n",
+        &[MONO],
+        &[],
+        Came::Refused(InputFault::NoWave { line: 3 }),
+    ),
+    (
+        "source s s.wav\n\nsource t t.wav\n",
+        &[MONO, MONO, MONO],
+        &[],
+        Came::Last(None),
+    ),
+    (
+        "gain g 256\noffer g in a.pod\noffer g out b.pod\n",
+        &[],
+        &[&RATE_44100],
+        Came::Refused(InputFault::NoFormat { line: 3 }),
+    ),
+    (
+        "gain g 256\noffer g in a.pod\nsource s s.wav\n",
+        &[],
+        &[&PROPS],
+        Came::Refused(InputFault::NotFormat { line: 2 }),
+    ),
+];
+
+/// Each source has the next wave.
+const WAVES: [Row; 2] = [
+    (
+        "source s s.wav\ngain g 256\nsource t t.wav\nmeter p\nlink t.out p.in\n",
+        &[MONO, STEREO],
+        &[],
+        LINKED_STEREO,
+    ),
+    (
+        "source s s.wav\ngain g 256\nsource t t.wav\nmeter p\nlink t.out p.in\n",
+        &[STEREO, MONO],
+        &[],
+        LINKED,
+    ),
+];
+
+/// An offer meets what is offered so far, and narrows its own port. The square has a rate of 48000,
+/// so a meter that offers only 44100 does not take it.
+const OFFERS: [Row; 6] = [
+    (
+        "source s s.wav\noffer s out f.pod\n",
+        &[MONO],
+        &[&RATE_44100],
+        Came::Refused(InputFault::Clash {
+            line: 2,
+            key: RATE_KEY,
+        }),
+    ),
+    (
+        "source s s.wav\noffer s out f.pod\n",
+        &[MONO],
+        &[&RATE_48000],
+        Came::Last(None),
+    ),
+    (
+        "gain g 256\noffer g in a.pod\noffer g in b.pod\n",
+        &[],
+        &[&RATE_48000, &RATE_44100],
+        Came::Refused(InputFault::Clash {
+            line: 3,
+            key: RATE_KEY,
+        }),
+    ),
+    (
+        "gain g 256\noffer g in a.pod\noffer g out b.pod\n",
+        &[],
+        &[&RATE_48000, &RATE_44100],
+        Came::Last(None),
+    ),
+    (
+        "square q 48000 1 4 1\nmeter a\nmeter b\noffer b in b.pod\noffer a in a.pod\n\
+            link q.out a.in\n",
+        &[],
+        &[&RATE_44100, &RATE_48000],
+        LINKED,
+    ),
+    (
+        "square q 48000 1 4 1\nmeter a\nmeter b\noffer b in b.pod\noffer a in a.pod\n\
+            link q.out b.in\n",
+        &[],
+        &[&RATE_44100, &RATE_48000],
+        Came::Last(Some(LineOutcome::NoFormat { key: RATE_KEY })),
+    ),
+];
 
 #[test]
-fn the_first_line_that_is_refused_is_named(rt: HostRuntime) {
-    let sources = "source s s.wav\n\nsource t t.wav\n";
-    let came = comes(rt.alloc(), sources, [MONO].as_slice(), [].as_slice());
-    assert_eq!(rt; came, refused(InputFault::NoWave { line: 3 }));
-    let came = comes(rt.alloc(), sources, [MONO; 3].as_slice(), [].as_slice());
-    assert_eq!(rt; came, Came::Last(None));
-    let offers = "gain g 256\noffer g in a.pod\noffer g out b.pod\n";
-    let came = comes(
-        rt.alloc(),
-        offers,
-        [].as_slice(),
-        [RATE_44100.as_slice()].as_slice(),
-    );
-    assert_eq!(rt; came, refused(InputFault::NoFormat { line: 3 }));
-    let both = "gain g 256\noffer g in a.pod\nsource s s.wav\n";
-    let came = comes(
-        rt.alloc(),
-        both,
-        [].as_slice(),
-        [PROPS.as_slice()].as_slice(),
-    );
-    assert_eq!(rt; came, refused(InputFault::NotFormat { line: 2 }));
-}
-
-#[test]
-fn each_source_has_the_next_wave(rt: HostRuntime) {
-    let text = "source s s.wav\ngain g 256\nsource t t.wav\nmeter p\nlink t.out p.in\n";
-    let came = comes(rt.alloc(), text, [MONO, STEREO].as_slice(), [].as_slice());
-    assert_eq!(rt; came, linked(2));
-    let came = comes(rt.alloc(), text, [STEREO, MONO].as_slice(), [].as_slice());
-    assert_eq!(rt; came, linked(1));
-}
-
-#[test]
-fn an_offer_meets_what_is_offered_so_far(rt: HostRuntime) {
-    let source = "source s s.wav\noffer s out f.pod\n";
-    let mono = [MONO];
-    let came = comes(
-        rt.alloc(),
-        source,
-        mono.as_slice(),
-        [RATE_44100.as_slice()].as_slice(),
-    );
-    assert_eq!(rt; came, clash(2));
-    let came = comes(
-        rt.alloc(),
-        source,
-        mono.as_slice(),
-        [RATE_48000.as_slice()].as_slice(),
-    );
-    assert_eq!(rt; came, Came::Last(None));
-    let twice = "gain g 256\noffer g in a.pod\noffer g in b.pod\n";
-    let offers = [RATE_48000.as_slice(), RATE_44100.as_slice()];
-    let came = comes(rt.alloc(), twice, [].as_slice(), offers.as_slice());
-    assert_eq!(rt; came, clash(3));
-    let ends = "gain g 256\noffer g in a.pod\noffer g out b.pod\n";
-    let came = comes(rt.alloc(), ends, [].as_slice(), offers.as_slice());
-    assert_eq!(rt; came, Came::Last(None));
-}
-
-// The square has a rate of 48000, so a meter that offers only 44100 does not take it.
-#[test]
-fn each_offer_narrows_its_own_port(rt: HostRuntime) {
-    let first = "square q 48000 1 4 1\nmeter a\nmeter b\noffer b in b.pod\noffer a in a.pod\n\
-        link q.out a.in\n";
-    let second = "square q 48000 1 4 1\nmeter a\nmeter b\noffer b in b.pod\noffer a in a.pod\n\
-        link q.out b.in\n";
-    let offers = [RATE_44100.as_slice(), RATE_48000.as_slice()];
-    let came = comes(rt.alloc(), first, [].as_slice(), offers.as_slice());
-    assert_eq!(rt; came, linked(1));
-    let came = comes(rt.alloc(), second, [].as_slice(), offers.as_slice());
-    assert_eq!(rt;
-        came,
-        Came::Last(Some(LineOutcome::NoFormat { key: RATE_KEY }))
-    );
+fn waves_and_offers_are_taken_in_the_order_of_their_lines(rt: HostRuntime) {
+    for rows in [LINES.as_slice(), WAVES.as_slice(), OFFERS.as_slice()] {
+        for (row, (text, sources, offers, wanted)) in rows.iter().enumerate() {
+            let came = comes(rt.alloc(), text, sources, offers);
+            assert_eq!(rt; came, *wanted, "row {row}: {text}");
+        }
+    }
 }

@@ -1,12 +1,13 @@
 //! Links that are refused, by scripts and formats in memory.
-ghost use Rattle.std.specs.Prelude.{All, IfOk, IfSome};
+ghost use Rattle.std.specs.Prelude.{All, IfOk};
 ghost use Rattle.format_filter.specs.CommonFormat.{IsSoundFormat};
 ghost use Rattle.script_inputs.specs.Inputs.{HasForm};
 
-use format_filter::{Choice, Format, Wide, format_of};
+use crate::offers::formats_in;
+use format_filter::{Choice, Format, Wide};
 use graph_plan::plan;
 use graph_script::parse;
-use pod_codec::{Pod, read_pod};
+use pod_codec::Pod;
 use pw_graph::{LineOutcome, LinkLine, PortId};
 use pw_lists::{Items, Memory, SCRIPT_BYTES_LIMIT, Text};
 use refused_links::{RefusedLink, Sides, put_choice, refused_links};
@@ -35,7 +36,7 @@ enum Voice {
 }
 
 /// What a side admits.
-#[derive(Clone, Copy, Debug, PartialEq, Eq, Drop)]
+#[derive(Debug, PartialEq, Drop)]
 enum Admits {
     /// It does not have the key.
     Nothing,
@@ -45,14 +46,14 @@ enum Admits {
 }
 
 /// What both sides admit, or which port offers nothing.
-#[derive(Clone, Copy, Debug, PartialEq, Eq, Drop)]
+#[derive(Debug, PartialEq, Drop)]
 enum Pair {
     Both(Admits, Admits),
     Node(PortId, Admits, Option<u32>),
 }
 
 /// What is told of a refused link.
-#[derive(Clone, Copy, Debug, PartialEq, Eq, Drop)]
+#[derive(Debug, PartialEq, Drop)]
 struct Told {
     line: u32,
     place: usize,
@@ -63,7 +64,7 @@ struct Told {
 }
 
 /// What comes of a text.
-#[derive(Clone, Copy, Debug, PartialEq, Eq, Drop)]
+#[derive(Debug, PartialEq, Drop)]
 enum Came {
     /// It is no script, or has no inputs.
     NoScript,
@@ -101,28 +102,6 @@ fn waves_of(alloc: Global, voices: &[Voice]) -> Result<Items<Wav>, Memory>
     Ok(waves)
 }
 
-// The format of a rate of 48000.
-fn rate_format(alloc: Global) -> Option<Format>
-    ensures { IfSome result IsSoundFormat }
-{
-    match read_pod(alloc, RATE_48000.as_slice()) {
-        Ok((pod, _size)) => format_of(alloc, &pod).ok(),
-        Err(_fault) => None,
-    }
-}
-
-// That format alone.
-fn rate_formats(alloc: Global) -> Option<Items<Format>>
-    ensures { IfSome result (All IsSoundFormat) }
-{
-    let mut formats = Items::new(alloc);
-    let format = rate_format(alloc)?;
-    match formats.push(format) {
-        Ok(()) => Some(formats),
-        Err(Memory) => None,
-    }
-}
-
 // What a side admits.
 fn admitted(side: &Option<Choice>) -> Admits {
     match side {
@@ -149,54 +128,25 @@ fn told_of(link: &RefusedLink) -> Told {
     }
 }
 
-// What is told of the last one.
-fn last_told(links: &[RefusedLink]) -> Option<Told> {
-    match links.last() {
-        Some(link) => Some(told_of(link)),
-        None => None,
-    }
-}
-
-// Whether a line of a plan is this link.
-fn is_line(line: &LinkLine, link: &RefusedLink) -> bool {
-    line.from == link.from
-        && line.to == link.to
-        && line.outcome == LineOutcome::NoFormat { key: link.key }
-}
-
-// Whether a line of a plan finds no common format.
-fn is_refused(line: &LinkLine) -> bool {
-    match line.outcome {
-        LineOutcome::NoFormat { .. } => true,
-        _ => false,
-    }
-}
-
-// Whether a link stands at its place among the lines of a plan.
-fn is_planned(lines: &[LinkLine], link: &RefusedLink) -> bool {
-    match lines.get(link.place) {
-        Some(line) => is_line(line, link),
-        None => false,
-    }
-}
-
 // Whether the lines of a plan that find no common format are just these links.
 fn are_planned(lines: &[LinkLine], links: &[RefusedLink]) -> bool {
-    for place in 0..lines.len() {
-        if is_refused(&lines[place]) && !links.iter().any(|link| link.place == place) {
+    for (place, line) in lines.iter().enumerate() {
+        if let LineOutcome::NoFormat { .. } = line.outcome {
+            if !links.iter().any(|link| link.place == place) {
+                return false;
+            }
+        }
+    }
+    for link in links {
+        let Some(line) = lines.get(link.place) else {
+            return false;
+        };
+        let refused = LineOutcome::NoFormat { key: link.key };
+        if line.from != link.from || line.to != link.to || line.outcome != refused {
             return false;
         }
     }
-    links.iter().all(|link| is_planned(lines, link))
-}
-
-// What comes of refused links beside the lines of a plan.
-fn came_of(lines: &[LinkLine], links: &[RefusedLink]) -> Came {
-    if are_planned(lines, links) {
-        Came::Refused(links.len(), last_told(links))
-    } else {
-        Came::Others
-    }
+    true
 }
 
 // What comes of a text, whose sources have these waves and whose `offer` lines these formats.
@@ -221,26 +171,20 @@ fn refused_in(alloc: Global, text: &str, waves: Items<Wav>, formats: &[Format]) 
     let Ok(links) = refused_links(alloc, &script, &waves, ports) else {
         return Came::NoScript;
     };
+    let links = links.as_slice();
     match plan(alloc, &script, &waves, copied) {
-        Ok(plan) => came_of(plan.lines.as_slice(), links.as_slice()),
+        Ok(plan) if are_planned(plan.lines.as_slice(), links) => match links.last() {
+            Some(link) => Came::Refused(links.len(), Some(told_of(link))),
+            None => Came::Refused(0, None),
+        },
+        Ok(_plan) => Came::Others,
         Err(_fault) => Came::NoScript,
     }
 }
 
-// What comes of a text without `offer` lines.
-fn comes(alloc: Global, text: &str, voices: &[Voice]) -> Came {
-    match waves_of(alloc, voices) {
-        Ok(waves) => {
-            let formats = Items::new(alloc);
-            refused_in(alloc, text, waves, formats.as_slice())
-        }
-        Err(Memory) => Came::NoScript,
-    }
-}
-
-// What comes of a text with one `offer` line, whose format has the rate 48000.
-fn comes_offered(alloc: Global, text: &str, voices: &[Voice]) -> Came {
-    let Some(formats) = rate_formats(alloc) else {
+// The same where bytes spell the formats, and the waves are these.
+fn comes(alloc: Global, text: &str, voices: &[Voice], offers: &[&[u8]]) -> Came {
+    let Some(formats) = formats_in(alloc, offers) else {
         return Came::NoScript;
     };
     match waves_of(alloc, voices) {
@@ -249,102 +193,128 @@ fn comes_offered(alloc: Global, text: &str, voices: &[Voice]) -> Came {
     }
 }
 
-// A port.
-fn at(node: u32, port: u32) -> PortId {
-    PortId { node, port }
+/// A text, the waves of its sources, the bytes of its `offer` line, and what comes of it.
+struct Row {
+    title: &'static str,
+    text: &'static str,
+    voices: &'static [Voice],
+    offers: &'static [&'static [u8]],
+    came: Came,
 }
 
-// One refused link.
-fn one(told: Told) -> Came {
-    Came::Refused(1, Some(told))
-}
+const REFUSED: [Row; 6] = [
+    // A wave of 44100 frames a second, and a sink that an offer narrows to 48000.
+    Row {
+        title: "the rates of a source and a narrowed sink are told",
+        text: "source s s.wav\nsink o o.wav\noffer o in f.pod\nlink s.out o.in\n",
+        voices: &[Voice::Mono44100],
+        offers: &[&RATE_48000],
+        came: Came::Refused(
+            1,
+            Some(Told {
+                line: 4,
+                place: 0,
+                from: PortId { node: 0, port: 0 },
+                to: PortId { node: 1, port: 0 },
+                key: RATE,
+                sides: Pair::Both(Admits::Only(44_100), Admits::Only(48_000)),
+            }),
+        ),
+    },
+    // The inputs of a mix2 share their channels, so the second one admits only those of the first.
+    Row {
+        title: "mono and stereo part at one mix",
+        text: "source m m.wav\nsource t t.wav\nmix2 x 256 256\nlink m.out x.a\nlink t.out x.b\n",
+        voices: &[Voice::Mono48000, Voice::Stereo48000],
+        offers: &[],
+        came: Came::Refused(
+            1,
+            Some(Told {
+                line: 5,
+                place: 1,
+                from: PortId { node: 1, port: 0 },
+                to: PortId { node: 2, port: 1 },
+                key: CHANNELS,
+                sides: Pair::Both(Admits::Only(2), Admits::Only(1)),
+            }),
+        ),
+    },
+    // The offer has the rate alone, so the input of the split admits two channels as before.
+    Row {
+        title: "a key that an offer lacks is told as before",
+        text: "source s s.wav\nsplit x\noffer x in f.pod\nlink s.out x.in\n",
+        voices: &[Voice::Mono48000],
+        offers: &[&RATE_48000],
+        came: Came::Refused(
+            1,
+            Some(Told {
+                line: 4,
+                place: 0,
+                from: PortId { node: 0, port: 0 },
+                to: PortId { node: 1, port: 0 },
+                key: CHANNELS,
+                sides: Pair::Both(Admits::Only(1), Admits::Only(2)),
+            }),
+        ),
+    },
+    // A gain shares its rate: 44100 comes in, and its output was narrowed to 48000.
+    Row {
+        title: "a port at odds with its node is told",
+        text: "source s s.wav\ngain g 256\noffer g out f.pod\nmeter p\n\
+            link s.out g.in\nlink g.out p.in\n",
+        voices: &[Voice::Mono44100],
+        offers: &[&RATE_48000],
+        came: Came::Refused(
+            1,
+            Some(Told {
+                line: 6,
+                place: 1,
+                from: PortId { node: 1, port: 1 },
+                to: PortId { node: 2, port: 0 },
+                key: RATE,
+                sides: Pair::Node(
+                    PortId { node: 1, port: 1 },
+                    Admits::Only(48_000),
+                    Some(44_100),
+                ),
+            }),
+        ),
+    },
+    // Stereo cannot go where mono is, until that link is gone. A link that is there, and one that
+    // would close a loop, are refused for that.
+    Row {
+        title: "other causes are left out",
+        text: "source m m.wav\nsource t t.wav\ngain g 256\nlink m.out g.in\nlink m.out g.in\n\
+            link g.out g.in\nlink t.out g.in\nunlink m.out g.in\nlink t.out g.in\ncycles 1\n",
+        voices: &[Voice::Mono48000, Voice::Stereo48000],
+        offers: &[],
+        came: Came::Refused(
+            1,
+            Some(Told {
+                line: 7,
+                place: 3,
+                from: PortId { node: 1, port: 0 },
+                to: PortId { node: 2, port: 0 },
+                key: CHANNELS,
+                sides: Pair::Both(Admits::Only(2), Admits::Only(1)),
+            }),
+        ),
+    },
+    Row {
+        title: "where no link is refused there is nothing to tell",
+        text: "square q 48000 1 4 1\nsink o o.wav\nlink q.out o.in\ndrain\n",
+        voices: &[],
+        offers: &[],
+        came: Came::Refused(0, None),
+    },
+];
 
-// A wave of 44100 frames a second, and a sink that an offer narrows to 48000.
 #[test]
-fn the_rates_of_a_source_and_a_narrowed_sink_are_told(rt: HostRuntime) {
-    let text = "source s s.wav\nsink o o.wav\noffer o in f.pod\nlink s.out o.in\n";
-    let came = comes_offered(rt.alloc(), text, [Voice::Mono44100].as_slice());
-    let wanted = Told {
-        line: 4,
-        place: 0,
-        from: at(0, 0),
-        to: at(1, 0),
-        key: RATE,
-        sides: Pair::Both(Admits::Only(44_100), Admits::Only(48_000)),
-    };
-    assert_eq!(rt; came, one(wanted));
-}
-
-// The inputs of a mix2 share their channels, so the second one admits only those of the first.
-#[test]
-fn mono_and_stereo_part_at_one_mix(rt: HostRuntime) {
-    let text = "source m m.wav\nsource t t.wav\nmix2 x 256 256\nlink m.out x.a\nlink t.out x.b\n";
-    let voices = [Voice::Mono48000, Voice::Stereo48000];
-    let came = comes(rt.alloc(), text, voices.as_slice());
-    let wanted = Told {
-        line: 5,
-        place: 1,
-        from: at(1, 0),
-        to: at(2, 1),
-        key: CHANNELS,
-        sides: Pair::Both(Admits::Only(2), Admits::Only(1)),
-    };
-    assert_eq!(rt; came, one(wanted));
-}
-
-// The offer has the rate alone, so the input of the split admits two channels as before.
-#[test]
-fn a_key_that_an_offer_lacks_is_told_as_before(rt: HostRuntime) {
-    let text = "source s s.wav\nsplit x\noffer x in f.pod\nlink s.out x.in\n";
-    let came = comes_offered(rt.alloc(), text, [Voice::Mono48000].as_slice());
-    let wanted = Told {
-        line: 4,
-        place: 0,
-        from: at(0, 0),
-        to: at(1, 0),
-        key: CHANNELS,
-        sides: Pair::Both(Admits::Only(1), Admits::Only(2)),
-    };
-    assert_eq!(rt; came, one(wanted));
-}
-
-// A gain shares its rate: 44100 comes in, and its output was narrowed to 48000.
-#[test]
-fn a_port_at_odds_with_its_node_is_told(rt: HostRuntime) {
-    let text = "source s s.wav\ngain g 256\noffer g out f.pod\nmeter p\n\
-        link s.out g.in\nlink g.out p.in\n";
-    let came = comes_offered(rt.alloc(), text, [Voice::Mono44100].as_slice());
-    let wanted = Told {
-        line: 6,
-        place: 1,
-        from: at(1, 1),
-        to: at(2, 0),
-        key: RATE,
-        sides: Pair::Node(at(1, 1), Admits::Only(48_000), Some(44_100)),
-    };
-    assert_eq!(rt; came, one(wanted));
-}
-
-// Stereo cannot go where mono is, until that link is gone. A link that is there, and one that would
-// close a loop, are refused for that.
-#[test]
-fn other_causes_are_left_out(rt: HostRuntime) {
-    let text = "source m m.wav\nsource t t.wav\ngain g 256\nlink m.out g.in\nlink m.out g.in\n\
-        link g.out g.in\nlink t.out g.in\nunlink m.out g.in\nlink t.out g.in\ncycles 1\n";
-    let voices = [Voice::Mono48000, Voice::Stereo48000];
-    let came = comes(rt.alloc(), text, voices.as_slice());
-    let wanted = Told {
-        line: 7,
-        place: 3,
-        from: at(1, 0),
-        to: at(2, 0),
-        key: CHANNELS,
-        sides: Pair::Both(Admits::Only(2), Admits::Only(1)),
-    };
-    assert_eq!(rt; came, one(wanted));
-    let text = "square q 48000 1 4 1\nsink o o.wav\nlink q.out o.in\ndrain\n";
-    let came = comes(rt.alloc(), text, [].as_slice());
-    assert_eq!(rt; came, Came::Refused(0, None));
+fn the_sides_of_a_refused_link_are_told(rt: HostRuntime) {
+    for row in REFUSED.as_slice() {
+        let came = comes(rt.alloc(), row.text, row.voices, row.offers);
+        assert_eq!(rt; came, row.came, "{}", row.title);
+    }
 }
 
 // Whether a choice has these words.
@@ -352,16 +322,6 @@ fn has_words(alloc: Global, choice: &Choice, wanted: &str) -> Result<bool, Memor
     let mut text: Text = Items::new(alloc);
     put_choice(&mut text, choice)?;
     Ok(text.as_slice() == wanted.as_bytes())
-}
-
-// Numbers of 32 bits as alternatives.
-fn alternatives(alloc: Global, numbers: &[i32]) -> Result<Choice, Memory> {
-    let mut alts = Items::new(alloc);
-    for number in numbers {
-        alts.push(Pod::Int(*number))?;
-    }
-    let pick = Pod::Int(48_000);
-    Ok(Choice::Enum { pick, alts })
 }
 
 #[test]
@@ -375,7 +335,12 @@ fn choices_have_words(rt: HostRuntime) -> Result<(), Fail> {
     assert!(rt; has_words(alloc, &negative, "-9223372036854775808")?);
     let none = Choice::Only(Pod::None);
     assert!(rt; has_words(alloc, &none, "a value that is no number")?);
-    let rates = alternatives(alloc, [44_100, 48_000, 96_000].as_slice())?;
+    let mut alts = Items::new(alloc);
+    for number in [44_100, 48_000, 96_000] {
+        alts.push(Pod::Int(number))?;
+    }
+    let pick = Pod::Int(48_000);
+    let rates = Choice::Enum { pick, alts };
     assert!(rt; has_words(alloc, &rates, "44100 or 48000 or 96000")?);
     let (wide, pick, min, max) = (Wide::Int, 2, 1, 8);
     let channels = Choice::Range {

@@ -1,40 +1,36 @@
-//! The epochs of a plan as text, and comparisons with what is wanted.
+//! The epochs of a plan as text, compared with what is wanted.
 
-use graph_plan::PlanFault;
-use plan_support::{Silence, TextFault, plan_text};
-use pw_graph::{Epoch, Fresh, Plan, PortForm, ShapeLink, ShapeNode};
-use pw_lists::{Memory, Which};
+use crate::counts::COUNTS;
+use crate::drains::DRAINS;
+use crate::epochs::EPOCHS;
+use crate::fresh::FRESH;
+use crate::limits::KEPT;
+use plan_support::{Silence, plan_text};
+use pw_graph::{Plan, PortForm, Shape};
+use pw_lists::Memory;
 use std::alloc::Global;
-use std::process::Abort;
 use std::test::Fail;
 
-// A node, its required count and its targets.
-fn put_node(alloc: Global, text: &mut String, node: &ShapeNode) -> Result<(), Memory> {
-    let head = format!(in alloc; "node {} waits {} wakes", node.node, node.required)?;
-    text.push_str(head.as_str())?;
-    for target in node.targets.as_slice() {
-        let part = format!(in alloc; " {target}")?;
-        text.push_str(part.as_str())?;
+// Nodes with their required counts and targets; links with their two ports, channels and buffers,
+// and whether they are late.
+fn put_shape(alloc: Global, text: &mut String, shape: &Shape) -> Result<(), Memory> {
+    for node in shape.nodes.as_slice() {
+        let head = format!(in alloc; "node {} waits {} wakes", node.node, node.required)?;
+        text.push_str(head.as_str())?;
+        for target in node.targets.as_slice() {
+            let part = format!(in alloc; " {target}")?;
+            text.push_str(part.as_str())?;
+        }
+        text.push('\n')?;
     }
-    text.push('\n')?;
-    Ok(())
-}
-
-// A link: its two ports, its channels and buffers, and whether it is late.
-fn put_link(alloc: Global, text: &mut String, link: &ShapeLink) -> Result<(), Memory> {
-    let (from, to) = (link.from, link.to);
-    let ends = format!(in alloc; "link {}.{} {}.{}", from.node, from.port, to.node, to.port)?;
-    text.push_str(ends.as_str())?;
-    let late = if link.delayed { " late" } else { "" };
-    let numbers = format!(in alloc; " {} {}{late}\n", link.channels, link.buffers)?;
-    text.push_str(numbers.as_str())?;
-    Ok(())
-}
-
-// A node that begins anew, and its channels.
-fn put_fresh(alloc: Global, text: &mut String, fresh: &Fresh) -> Result<(), Memory> {
-    let line = format!(in alloc; "fresh {} {}\n", fresh.node, fresh.channels)?;
-    text.push_str(line.as_str())?;
+    for link in shape.links.as_slice() {
+        let (from, to) = (link.from, link.to);
+        let ends = format!(in alloc; "link {}.{} {}.{}", from.node, from.port, to.node, to.port)?;
+        text.push_str(ends.as_str())?;
+        let late = if link.delayed { " late" } else { "" };
+        let numbers = format!(in alloc; " {} {}{late}\n", link.channels, link.buffers)?;
+        text.push_str(numbers.as_str())?;
+    }
     Ok(())
 }
 
@@ -46,93 +42,74 @@ fn put_form(alloc: Global, text: &mut String, form: &PortForm) -> Result<(), Mem
     Ok(())
 }
 
-// The cycles of an epoch, and its driver.
-fn put_span(alloc: Global, text: &mut String, epoch: &Epoch) -> Result<(), Memory> {
-    let shape = &epoch.shape;
-    let line = format!(in alloc;
-        "from {} cycles {} driver {}\n",
-        shape.first, shape.cycles, shape.driver
-    )?;
-    text.push_str(line.as_str())?;
-    Ok(())
-}
-
-// The nodes and links of an epoch.
-fn put_shape(alloc: Global, text: &mut String, epoch: &Epoch) -> Result<(), Memory> {
-    for node in epoch.shape.nodes.as_slice() {
-        put_node(alloc, text, node)?;
-    }
-    for link in epoch.shape.links.as_slice() {
-        put_link(alloc, text, link)?;
-    }
-    Ok(())
-}
-
-// The nodes that begin anew.
-fn put_all_fresh(alloc: Global, text: &mut String, epoch: &Epoch) -> Result<(), Memory> {
-    for fresh in epoch.fresh.as_slice() {
-        put_fresh(alloc, text, fresh)?;
-    }
-    Ok(())
-}
-
-// The forms of an epoch.
-fn put_forms(alloc: Global, text: &mut String, epoch: &Epoch) -> Result<(), Memory> {
-    for form in epoch.forms.as_slice() {
-        put_form(alloc, text, form)?;
-    }
-    Ok(())
-}
-
 /// What is shown of each epoch, after its cycles and its driver.
-#[derive(Clone, Copy, Drop)]
+#[derive(Drop)]
 pub enum Part {
     Nothing,
+    /// The nodes and the links.
     Shape,
+    /// The nodes that begin anew, and their channels.
     Fresh,
+    /// The forms of ports.
     Forms,
 }
 
 // This part of all epochs.
-fn plan_shown(alloc: Global, plan: &Plan, part: Part) -> Result<String, Memory> {
+fn plan_shown(alloc: Global, plan: &Plan, part: &Part) -> Result<String, Memory> {
     let mut text = String::new(alloc);
     for epoch in plan.epochs.as_slice() {
-        put_span(alloc, &mut text, epoch)?;
+        let shape = &epoch.shape;
+        let line = format!(in alloc;
+            "from {} cycles {} driver {}\n",
+            shape.first, shape.cycles, shape.driver
+        )?;
+        text.push_str(line.as_str())?;
         match part {
             Part::Nothing => {}
-            Part::Shape => put_shape(alloc, &mut text, epoch)?,
-            Part::Fresh => put_all_fresh(alloc, &mut text, epoch)?,
-            Part::Forms => put_forms(alloc, &mut text, epoch)?,
+            Part::Shape => put_shape(alloc, &mut text, shape)?,
+            Part::Fresh => {
+                for fresh in epoch.fresh.as_slice() {
+                    let line = format!(in alloc; "fresh {} {}\n", fresh.node, fresh.channels)?;
+                    text.push_str(line.as_str())?;
+                }
+            }
+            Part::Forms => {
+                for form in epoch.forms.as_slice() {
+                    put_form(alloc, &mut text, form)?;
+                }
+            }
         }
     }
     Ok(text)
 }
 
-/// Compares a part of the epochs of a text's plan.
-pub fn expect_part<R: AllocGlobal + Abort>(
-    rt: &R,
-    text: &str,
-    sources: &[Silence],
-    part: Part,
-    wanted: &str,
-) -> Result<(), Fail> {
-    match plan_text(rt.alloc(), text, sources) {
-        Ok(plan) => {
-            let shown = plan_shown(rt.alloc(), &plan, part)?;
-            assert!(rt; shown.as_str() == wanted, "{text}{shown}");
-        }
-        Err(_fault) => assert!(rt; false, "{text}"),
-    }
-    Ok(())
+/// A text whose sources have these waves, and what is wanted of a part of its plan's epochs.
+pub struct Row {
+    pub title: &'static str,
+    pub text: &'static str,
+    pub sources: &'static [Silence],
+    pub part: Part,
+    pub wanted: &'static str,
 }
 
-/// Compares the limit that a text's plan passes.
-pub fn expect_limit<R: AllocGlobal + Abort>(rt: &R, text: &str, line: u32, which: Which) {
-    match plan_text(rt.alloc(), text, [].as_slice()) {
-        Ok(_plan) => assert!(rt; false, "{text}"),
-        Err(fault) => {
-            let wanted = TextFault::Plan(PlanFault::Limit { line, which });
-            assert!(rt; fault == wanted, "{text}");
+#[test]
+fn plans_have_their_epochs(rt: HostRuntime) -> Result<(), Fail> {
+    for rows in [
+        COUNTS.as_slice(),
+        DRAINS.as_slice(),
+        EPOCHS.as_slice(),
+        FRESH.as_slice(),
+        KEPT.as_slice(),
+    ] {
+        for row in rows {
+            match plan_text(rt.alloc(), row.text, row.sources) {
+                Ok(plan) => {
+                    let shown = plan_shown(rt.alloc(), &plan, &row.part)?;
+                    assert!(rt; shown.as_str() == row.wanted, "{}\n{shown}", row.title);
+                }
+                Err(_fault) => assert!(rt; false, "{}", row.title),
+            }
         }
     }
+    Ok(())
 }
