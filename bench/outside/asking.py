@@ -40,7 +40,7 @@ def programs_of(folder):
         tried = [Path(folder) / crate, Path(folder) / name] if folder else built
         there = [path.resolve() for path in tried if path.is_file()]
         if not there:
-            raise SystemExit(f"{tried[0]} is not there: `rt ci` builds the three programs")
+            raise SystemExit(f"{tried[0]} is not there: `rt ci` builds the two programs")
         found[name] = there[0]
     installed = Path(folder) / PICTURES if folder else TOOL
     found[PICTURES] = installed.resolve() if installed.is_file() else TOOL

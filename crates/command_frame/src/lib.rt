@@ -1,6 +1,6 @@
-//! The frame of the commands of pipegraph (`pw_top`), of pipegraph-pods (`pod_text`) and of
-//! pipegraph-pictures (`graph_pictures`): what an expected answer is, how far it was followed, and
-//! the calls that load, deliver and end, over the statuses and requests of a program.
+//! The frame of the commands of pipegraph (`pw_top`) and of pipegraph-pods (`pod_text`): what an
+//! expected answer is, how far it was followed, and the calls that load, deliver and end, over the
+//! statuses and requests of a program.
 //!
 //! A program says by `Ending` what its statuses are to the frame, and by `Program` what its words
 //! ask for and which answers are allowed. `run` does what words ask for; `load_step` and `finish`

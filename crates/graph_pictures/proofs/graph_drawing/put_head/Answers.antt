@@ -1,5 +1,0 @@
-use Rattle.graph_pictures.proofs.Grown.{grown_4}
-use Rattle.graph_pictures.proofs.graph_drawing.put_head.Goals as goal
-
-pub returns : goal.returns
-returns c = grown_4 _ _ _ _ _ _ _ _ _ c.in_ok-fill.ensures c.in_ok-fill-2.ensures c.in_ok-fill-3.ensures c.in_ok-fill-4.ensures
