@@ -16,7 +16,7 @@ def costs(page: Path) -> Dict[Part, float]:
         within = within or line.startswith("| crate | proof | tests |")
         cells = [cell.strip() for cell in line.strip("|").split("|")]
         if within and len(cells) == 5 and cells[1].isdigit():
-            for part, cell in zip(("proof", "tests", "edits"), (cells[1], cells[2], cells[4])):
+            for part, cell in zip(("proof", "tests", "edits"), cells[1:4]):
                 found[cells[0], part] = float(cell) if cell.isdigit() else 0.0
     return found
 
