@@ -5,7 +5,7 @@ use format_filter::{Choice, Wide};
 use pod_codec::Pod;
 use pw_graph::{LineOutcome, Plan, PortId};
 use pw_lists::{Items, Memory, Text};
-use pw_top::{Clash, Content, Found, Store, What, Work};
+use pw_top::{Content, Found, Store, What, Work};
 use refused_links::{RefusedLink, Sides};
 use std::alloc::Global;
 use wav_files::{Peak, Wav};
@@ -17,19 +17,29 @@ pub(crate) type Stored = (u32, &'static str, &'static [i16]);
 #[derive(Clone, Copy, Drop)]
 pub(crate) enum Seen {
     Nothing,
-    /// Of a run of a script: what its lines with two ends did, in their order, and the peaks of its
-    /// meters.
-    Run(&'static [LineOutcome], &'static [Peak]),
-    /// Of a run: the same, and its epochs.
-    Ran(&'static [LineOutcome], &'static [Peak], &'static [Driven]),
-    /// Of a run: what its lines with two ends did, and what both sides of refused links admit.
-    Parted(&'static [LineOutcome], &'static [Parted]),
-    /// Of a trace: that it is legal, or its first line that is no event.
+    /// Of a run of a script.
+    Run(Ran),
+    /// Of a trace: that it is legal.
     Legal,
-    NoEvent(u64),
-    /// Of two objects: how they clash.
-    Clash(Clash),
 }
+
+/// What a run of a script found: what its lines with two ends did, in their order, the peaks of its
+/// meters, its epochs, and what both sides of refused links admit.
+#[derive(Clone, Copy, Drop)]
+pub(crate) struct Ran {
+    pub(crate) outcomes: &'static [LineOutcome],
+    pub(crate) peaks: &'static [Peak],
+    pub(crate) epochs: &'static [Driven],
+    pub(crate) parted: &'static [Parted],
+}
+
+/// A run of a script without links, meters and cycles.
+pub(crate) const RAN: Ran = Ran {
+    outcomes: &[],
+    peaks: &[],
+    epochs: &[],
+    parted: &[],
+};
 
 /// The driver of an epoch, and its active nodes.
 pub(crate) type Driven = (u32, &'static [u32]);
@@ -139,29 +149,22 @@ fn work_of(alloc: Global, text: Text, rows: &[Stored]) -> Result<Work, Memory> {
 }
 
 // What a run of a script found.
-fn run_of(
-    alloc: Global,
-    script: &[u8],
-    outcomes: &[LineOutcome],
-    peaks: &[Peak],
-    epochs: &[Driven],
-    parted: &[Parted],
-) -> Result<What, Memory> {
+fn run_of(alloc: Global, script: &[u8], ran: Ran) -> Result<What, Memory> {
     let script = script_of(alloc, script)?;
     let nodes = nodes_of(alloc, &script)?;
-    let lines = told_of(alloc, &script, outcomes)?;
-    let peaks = Items::from_slice(alloc, peaks)?;
+    let lines = told_of(alloc, &script, ran.outcomes)?;
+    let peaks = Items::from_slice(alloc, ran.peaks)?;
     let plan = Plan {
         quantum: 8192,
         nodes,
-        epochs: epochs_of(alloc, epochs)?,
+        epochs: epochs_of(alloc, ran.epochs)?,
         lines,
     };
     Ok(What::Run {
         script,
         plan,
         peaks,
-        refused: refused_of(alloc, parted)?,
+        refused: refused_of(alloc, ran.parted)?,
     })
 }
 
@@ -169,25 +172,15 @@ fn run_of(
 pub(crate) fn what_of(alloc: Global, script: Option<&[u8]>, seen: Seen) -> Result<What, Memory> {
     match seen {
         Seen::Nothing => Ok(What::Nothing),
-        Seen::Run(outcomes, peaks) => match script {
+        Seen::Run(ran) => match script {
             None => Ok(What::Nothing),
-            Some(script) => run_of(alloc, script, outcomes, peaks, &[], &[]),
-        },
-        Seen::Ran(outcomes, peaks, epochs) => match script {
-            None => Ok(What::Nothing),
-            Some(script) => run_of(alloc, script, outcomes, peaks, epochs, &[]),
-        },
-        Seen::Parted(outcomes, parted) => match script {
-            None => Ok(What::Nothing),
-            Some(script) => run_of(alloc, script, outcomes, &[], &[], parted),
+            Some(script) => run_of(alloc, script, ran),
         },
         Seen::Legal => Ok(What::Check {
             names: Items::new(alloc),
             reason: None,
             event: None,
         }),
-        Seen::NoEvent(number) => Ok(What::NoEvent { number }),
-        Seen::Clash(clash) => Ok(What::Clash(clash)),
     }
 }
 

@@ -1,5 +1,5 @@
-//! Tests of what commands do and say by what no command line shows: the sentence of each status and the
-//! notes, by values, calls that fail, fronts of files, and the program with both its outputs, over
+//! Tests of what commands do and say by what no command line shows: sentences and notes by values that
+//! no run finds, calls that fail, fronts of files, and the program with both its outputs, over
 //! files and outputs in memory. There is nothing else here.
 #![tactic(auto)]
 

@@ -37,8 +37,7 @@ const REFUSED: Told = Told {
     next_load: 2,
 };
 
-/// A refusal, one whose sentence cannot be written, an accepted script, one with notes, a script
-/// that its first sink overwrites before the store of the second fails, and words that are no
+/// A refusal, one whose sentence cannot be written, an accepted script, a script that its first sink overwrites before the store of the second fails, and words that are no
 /// command line.
 const ROWS: &'static [Told] = &[
     REFUSED,
@@ -52,17 +51,6 @@ const ROWS: &'static [Told] = &[
         code: 0,
         out: b"link s.out o.in 48000 1 2\nwrote o 4\n",
         errors: b"",
-        next_load: 3,
-        ..REFUSED
-    },
-    Told {
-        script: b"quantum 2\nsource s s.wav\nsink o o.wav\nmeter m\nlink s.out o.in\n\
-            link s.out o.in\ncycles 2\n",
-        code: 0,
-        out: b"link s.out o.in 48000 1 2\nnolink s.out o.in twice\nwrote o 4\nunused m\n",
-        errors: b"pipegraph: s.graph:6: \"s.out\" to \"o.in\" is no link: it is there already\n\
-            pipegraph: s.graph:4: \"m\" had no format at the end, so it has no peak; \
-            no link line names \"m\"\n",
         next_load: 3,
         ..REFUSED
     },
@@ -125,57 +113,6 @@ fn first_unlike<R: Threads + Wait + Sync + AllocGlobal>(rt: &R, rows: &[Told]) -
 #[test]
 fn programs_end_and_say_why(rt: HostRuntime) {
     assert_eq!(rt; first_unlike(&rt, ROWS), None);
-}
-
-// A text of some lines, of one line 200 times, and of a last one.
-fn repeated(alloc: Global, first: &[u8], line: &[u8], last: &[u8]) -> Result<Items<u8>, Memory> {
-    let mut text = Items::from_slice(alloc, first)?;
-    for _line in 0..200 {
-        text.extend(line)?;
-    }
-    text.extend(last)?;
-    Ok(text)
-}
-
-// The note on each of 200 lines.
-fn noted(alloc: Global) -> Result<Items<u8>, Memory> {
-    let mut notes = Items::new(alloc);
-    for line in 5..205 {
-        let note = format!(in alloc;
-            "pipegraph: s.graph:{line}: \"s.out\" to \"o.in\" is no link: it is there already\n"
-        )?;
-        notes.extend(note.as_bytes())?;
-    }
-    Ok(notes)
-}
-
-// Whether a run of a script puts a text, and these notes.
-fn notes_are<R: Threads + Wait + Sync + AllocGlobal>(
-    rt: &R,
-    script: &[u8],
-    text: &[u8],
-    notes: &[u8],
-) -> Result<bool, Memory> {
-    let alloc = rt.alloc();
-    let words = words_of(alloc, "run s.graph")?;
-    let files = files_of(alloc, script, &[S_WAV], SURE)?;
-    let out = MemSink::new(alloc)?;
-    let mut errors = MemSink::new(alloc)?;
-    let ended = run_program(rt, alloc, words.as_slice(), files, out, &mut errors);
-    Ok(ended.out.bytes().as_slice() == text && errors.bytes().as_slice() == notes)
-}
-
-// The text of 200 links that are there already has more than 4 KiB.
-#[test]
-fn a_long_text_has_its_notes(rt: HostRuntime) -> Result<(), Fail> {
-    let alloc = rt.alloc();
-    let nodes = b"quantum 2\nsource s s.wav\nsink o o.wav\nlink s.out o.in\n".as_slice();
-    let script = repeated(alloc, nodes, b"link s.out o.in\n", b"cycles 2\n")?;
-    let made = b"link s.out o.in 48000 1 2\n".as_slice();
-    let text = repeated(alloc, made, b"nolink s.out o.in twice\n", b"wrote o 4\n")?;
-    let notes = noted(alloc)?;
-    assert!(rt; notes_are(&rt, script.as_slice(), text.as_slice(), notes.as_slice())?);
-    Ok(())
 }
 
 #[test]
