@@ -18,7 +18,7 @@ use Rattle.pod_text.specs.Loading.{input_name, source_bytes_limit}
 use Rattle.pod_text.specs.Making.{IsFormatPod}
 use Rattle.pod_text.specs.DumpMaking.{IsMadePod}
 use Rattle.pod_text.specs.Statuses.{statuses}
-use Rattle.pod_text.specs.UsageText.{usage_text}
+use Rattle.pod_text.specs.UsageText.{usage_text, version_text}
 use Rattle.pod_text.specs.Words.{request_of}
 
 -- what was read is refused, with its line at fault where the status names one
@@ -46,6 +46,11 @@ abbrev pub IsHelpWork : Result Work Status → Type 0
 IsHelpWork (Ok work) = work ≡ put_work usage_text
 IsHelpWork (Err status) = status ≡ S.Memory
 
+-- the version is put
+abbrev pub IsVersionWork : Result Work Status → Type 0
+IsVersionWork (Ok work) = work ≡ put_work version_text
+IsVersionWork (Err status) = status ≡ S.Memory
+
 -- GAINS and POD: what a word names is loaded, and made
 abbrev pub IsMakeAnswer : Source → List ℕ → List ℕ → List ℕ → Names → Answer Status → Type 0
 IsMakeAnswer source from to line names = Binds statuses
@@ -57,6 +62,7 @@ abbrev pub IsAnswerTo : List ℕ → Request → Names → Answer Status → Typ
 IsAnswerTo line (R.Make source from to) names = IsMakeAnswer source from to line names
 IsAnswerTo line (R.Format to format) names = Reads statuses (IsFormatWork format to)
 IsAnswerTo line R.Help names = Reads statuses IsHelpWork
+IsAnswerTo line R.Version names = Reads statuses IsVersionWork
 
 -- and to words
 abbrev pub IsAnswered : List (List ℕ) → List ℕ → Names → Answer Status → Type 0

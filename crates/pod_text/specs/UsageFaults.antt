@@ -1,18 +1,13 @@
 -- What is wrong with the words of a command line, in words. Source: this project's own.
-use Rattle.std.specs.Prelude.{ℕ, ◌==◌, ◌-◌, ◌&&◌, Bool, nat_lt, if◌then◌else◌, List, [], ◌++◌, length, codes, bytes_eq, slice_index_or}
+use Rattle.std.specs.Prelude.{ℕ, ◌==◌, ◌-◌, nat_lt, if◌then◌else◌, List, [], ◌++◌, length, codes, slice_index_or}
 use Rattle.word_hints.specs.Guesses.{guesses, question}
 use Rattle.pod_text.specs.Showing.{shown}
-use Rattle.pod_text.specs.UsageText.{version_said}
 use Rattle.pod_text.specs.WordRules.{commands, rule_at, names_at}
 use Rattle.pod_text.specs.Words.{source_of}
 
 -- a word by its index; nothing where there is none
 abbrev pub word : List (List ℕ) → ℕ → List ℕ
 word words i = slice_index_or words i []
-
--- whether the version is asked for, which is no command
-abbrev pub asks_version : List (List ℕ) → ℕ → Bool
-asks_version words i = (i == 0) && bytes_eq (word words 0) (codes "--version")
 
 -- the first word, which is no command
 unfoldable pub no_command : List ℕ → List ℕ
@@ -44,8 +39,7 @@ abbrev pub later_fault : List (List ℕ) → ℕ → List ℕ
 later_fault words i =
     if nat_lt i (length words) then wrong_word words i else missing_word words i
 
--- THE FAULT at an index, or the version where it is asked for
+-- THE FAULT at an index
 abbrev pub usage_fault : List (List ℕ) → ℕ → List ℕ
 usage_fault words i =
-    if asks_version words i then version_said
-    else (if i == 0 then first_fault words else later_fault words i)
+    if i == 0 then first_fault words else later_fault words i

@@ -9,7 +9,6 @@ usage_text = codes "usage: pipegraph-pods gains LIST OUT\n"
     ++ codes "       VALUES is A, A|B, MIN..MAX or MIN..MAX/STEP;\n"
     ++ codes "       `-` is standard input or output\n"
 
--- the version, and where the manual is
-abbrev pub version_said : List ℕ
-version_said = codes "version 0.1; the manual: man pipegraph-pods where it is installed, and "
-    ++ codes "man -l docs/pipegraph-pods.1"
+-- the version
+abbrev pub version_text : List ℕ
+version_text = codes "pipegraph-pods 0.1\n"

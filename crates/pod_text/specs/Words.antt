@@ -31,10 +31,15 @@ source_of name = if bytes_eq name (codes "gains") then Some Src.Gains
 abbrev pub is_help : List ℕ → Bool
 is_help name = bytes_eq name (codes "--help") || bytes_eq name (codes "-h")
 
+-- whether it asks for the version
+abbrev pub is_version : List ℕ → Bool
+is_version name = bytes_eq name (codes "--version")
+
 -- the other commands
 abbrev pub other_of : List ℕ → List (List ℕ) → Result Request ℕ
 other_of name rest = if bytes_eq name (codes "format") then format_behind rest
-    else (if is_help name then Ok R.Help else Err 0)
+    else (if is_help name then Ok R.Help
+    else (if is_version name then Ok R.Version else Err 0))
 
 abbrev pub by_source : Option Source → List ℕ → List (List ℕ) → Result Request ℕ
 by_source None name rest = other_of name rest

@@ -4,14 +4,14 @@ ghost use Rattle.command_frame.specs.Ending.{CommandCause, IsDeliverable};
 ghost use Rattle.command_frame.specs.Preparing.{LoadsOnly, Tells};
 ghost use Rattle.format_filter.specs.CommonFormat.{IsSoundFormat};
 ghost use Rattle.graph_script.specs.Lexical.{lines_of};
-ghost use Rattle.pod_text.specs.Answers.{IsRefusedBy, IsMadeWork, IsFormatWork, IsHelpWork, IsMakeAnswer};
+ghost use Rattle.pod_text.specs.Answers.{IsRefusedBy, IsMadeWork, IsFormatWork, IsHelpWork, IsVersionWork, IsMakeAnswer};
 ghost use Rattle.pod_text.specs.DumpMaking.{IsMadePod};
 ghost use Rattle.pod_text.specs.Statuses.{statuses};
 
 use crate::delivering::{goes_to, put_work};
 use crate::loading::{INPUT, SOURCE_BYTES, name_of};
 use crate::making::{format_pod, made_pod};
-use crate::sentences::usage_text;
+use crate::sentences::{usage_text, version_text};
 use crate::showing::line_at;
 use crate::source::Source;
 use crate::status::Status;
@@ -34,6 +34,17 @@ fn help_work(alloc: Global) -> Result<Work, Status>
     ensures cause { CommandCause statuses (IsDeliverable statuses) 0 0 result }
 {
     match Items::from_slice(alloc, usage_text()) {
+        Ok(text) => Ok(put_work(alloc, text)),
+        Err(_memory) => Err(Status::Memory),
+    }
+}
+
+// The version, put.
+fn version_work(alloc: Global) -> Result<Work, Status>
+    ensures work { IsVersionWork result }
+    ensures cause { CommandCause statuses (IsDeliverable statuses) 0 0 result }
+{
+    match Items::from_slice(alloc, version_text()) {
         Ok(text) => Ok(put_work(alloc, text)),
         Err(_memory) => Err(Status::Memory),
     }
@@ -154,6 +165,7 @@ impl Program<Status, Request> for Pods {
     ) -> Result<Work, Status> {
         match request {
             Request::Help => help_work(alloc),
+            Request::Version => version_work(alloc),
             Request::Format { to, format } => format_work(alloc, to, &format),
             Request::Make { source, from, to } => self.make(alloc, files, source, &from, to),
         }

@@ -1,6 +1,6 @@
 //! The sentence of a status, for people.
 ghost use Rattle.std.specs.Prelude.{◌≡◌, ◌++◌, [], map, string_bytes, codes, OnOk, IfOk};
-ghost use Rattle.pod_text.specs.UsageText.{usage_text};
+ghost use Rattle.pod_text.specs.UsageText.{usage_text, version_text};
 ghost use Rattle.pod_text.specs.Sentences.{at_word, too_long_said, line_fault, absent_said};
 ghost use Rattle.pod_text.specs.LineFaults.{list_line, dump_line};
 ghost use Rattle.pod_text.specs.UsageFaults.{word};
@@ -30,6 +30,13 @@ pub(crate) fn usage_text() -> &'static [u8]
        \x20      LIST has lines `FRAME GAIN`; TEXT is what `pipegraph dump` prints;\n\
        \x20      VALUES is A, A|B, MIN..MAX or MIN..MAX/STEP;\n\
        \x20      `-` is standard input or output\n"
+}
+
+/// The version.
+pub(crate) fn version_text() -> &'static [u8]
+    ensures { result.now ≡ version_text }
+{
+    b"pipegraph-pods 0.1\n"
 }
 
 // What is wrong with the file that a word names.

@@ -44,11 +44,11 @@ fn explained(
 ///
 /// The words are those after the program's own name: `gains LIST OUT` makes the control sequence
 /// of a list of gains, `pod TEXT OUT` the value whose dump a text is, `format OUT rate VALUES
-/// channels VALUES [mandatory KEY]` the object of an offer, `--help` puts the commands. Where a
-/// file is meant, `-` is standard input, which is loaded as `/dev/stdin`, or standard output. What
-/// is read is loaded once. Where the words or what is read are refused, nothing is stored and
-/// nothing put. The sentence has the reason that the files tell of a load or a store that failed.
-/// Takes memory for what is read, for the value and for the bytes.
+/// channels VALUES [mandatory KEY]` the object of an offer, `--help` puts the commands, and
+/// `--version` the version. Where a file is meant, `-` is standard input, which is loaded as
+/// `/dev/stdin`, or standard output. What is read is loaded once. Where the words or what is read
+/// are refused, nothing is stored and nothing put. The sentence has the reason that the files tell
+/// of a load or a store that failed. Takes memory for what is read, for the value and for the bytes.
 pub fn make_pod<F: Files + TellsWhy, O: Sink>(
     alloc: Global,
     words: &[String],

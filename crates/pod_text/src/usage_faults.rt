@@ -1,8 +1,7 @@
 //! What is wrong with the words of a command line.
 ghost use Rattle.std.specs.Prelude.{◌≡◌, ◌-◌, ◌++◌, map, string_bytes, OnOk};
 ghost use Rattle.pod_text.specs.Showing.{shown};
-ghost use Rattle.pod_text.specs.UsageText.{version_said};
-ghost use Rattle.pod_text.specs.UsageFaults.{word, asks_version, no_command, rule_of, meant_of};
+ghost use Rattle.pod_text.specs.UsageFaults.{word, no_command, rule_of, meant_of};
 ghost use Rattle.pod_text.specs.UsageFaults.{wrong_word, missing_word, first_fault, later_fault, usage_fault};
 
 use crate::showing::put_shown;
@@ -18,21 +17,6 @@ pub(crate) fn word_at(words: &[String], index: u32) -> &[u8]
         Some(word) => word.as_bytes(),
         None => b"".as_slice(),
     }
-}
-
-// The version, and where the manual is.
-fn version_said() -> &'static [u8]
-    ensures { result.now ≡ version_said }
-{
-    b"version 0.1; the manual: man pipegraph-pods where it is installed, and \
-      man -l docs/pipegraph-pods.1"
-}
-
-// Whether the version is asked for, which is no command.
-fn asks_version(words: &[String], index: u32) -> bool
-    ensures { result ≡ asks_version (map string_bytes words.now) index }
-{
-    index == 0 && word_at(words, 0) == b"--version".as_slice()
 }
 
 // The first word, which is no command.
@@ -141,14 +125,12 @@ fn put_later(text: &mut Text, words: &[String], index: u32) -> Result<(), Memory
     }
 }
 
-/// What is wrong with the words at an index, or the version where it is asked for.
+/// What is wrong with the words at an index.
 pub(crate) fn put_usage(text: &mut Text, words: &[String], index: u32) -> Result<(), Memory>
     ensures { OnOk result (text.new ≡ text.old
         ++ usage_fault (map string_bytes words.now) index) }
 {
-    if asks_version(words, index) {
-        text.extend(version_said())
-    } else if index == 0 {
+    if index == 0 {
         put_first(text, words)
     } else {
         put_later(text, words, index)

@@ -17,6 +17,8 @@ use std::alloc::Global;
 pub enum Request {
     /// The commands in words.
     Help,
+    /// The version.
+    Version,
     /// The object of an offer.
     Format {
         to: Text,
@@ -132,6 +134,8 @@ fn read_others(alloc: Global, name: &[u8], rest: &[String]) -> Result<Request, M
         read_format_words(alloc, rest)
     } else if name == b"--help".as_slice() || name == b"-h".as_slice() {
         Ok(Request::Help)
+    } else if name == b"--version".as_slice() {
+        Ok(Request::Version)
     } else {
         Err(Misread::Word(0))
     }
