@@ -44,28 +44,23 @@ fn nodes_of(alloc: Global, rows: &[(u32, u32, &[u32])]) -> Result<Items<ShapeNod
     Ok(nodes)
 }
 
-// A link of one channel.
-fn link(from: (u32, u32), to: (u32, u32)) -> ShapeLink {
-    ShapeLink {
-        from: PortId {
-            node: from.0,
-            port: from.1,
-        },
-        to: PortId {
-            node: to.0,
-            port: to.1,
-        },
-        channels: 1,
-        buffers: 2,
-        delayed: false,
-    }
-}
-
-// The links of these rows.
+// The links of these rows, each of one channel.
 fn links_of(alloc: Global, rows: &[((u32, u32), (u32, u32))]) -> Result<Items<ShapeLink>, Memory> {
     let mut links = Items::new(alloc);
     for (from, to) in rows {
-        links.push(link(*from, *to))?;
+        links.push(ShapeLink {
+            from: PortId {
+                node: from.0,
+                port: from.1,
+            },
+            to: PortId {
+                node: to.0,
+                port: to.1,
+            },
+            channels: 1,
+            buffers: 2,
+            delayed: false,
+        })?;
     }
     Ok(links)
 }
@@ -175,70 +170,38 @@ fn begin_next(board: &Board, seat: &mut DriverSeat) -> bool
     true
 }
 
-// Whether four words from an index on are these. The board has four nodes.
-fn has_words(board: &Board, first: usize, words: (u64, u64, u64, u64)) -> bool
-    requires { (length board.now.board_shape.shape.nodes ≡ 4) × (first ≤ 5) }
-{
-    board.peek(first) == words.0
-        && board.peek(first + 1) == words.1
-        && board.peek(first + 2) == words.2
-        && board.peek(first + 3) == words.3
-}
-
 // Whether the pending and the status words of four nodes are these.
 fn is_at(board: &Board, pending: (u64, u64, u64, u64), status: (u64, u64, u64, u64)) -> bool {
-    board.shape().nodes.len() == 4 && has_words(board, 1, pending) && has_words(board, 5, status)
-}
-
-// Begins the next cycle, if there is one, and looks at once who has not finished it.
-fn begin_and_check(board: &Board, seat: &mut DriverSeat) -> Option<u64>
-    requires table { IsOn board.now seat.old.table }
-    requires between { IsBetween (layout board.now) seat.old.knows }
-{
-    let driver = board.shape().driver;
-    if seat.ended(board, driver) == board.shape().cycles {
-        return None;
-    }
-    begin(board, seat);
-    Some(check_late(board, seat))
-}
-
-// The words of one begin, and what claims find.
-fn words_stand(
-    board: &Board,
-    driver: &mut DriverSeat,
-    one: &mut LoopSeat,
-    two: &mut LoopSeat,
-) -> bool
-    requires driver { IsOn board.now driver.old.table }
-    requires one { IsOn board.now one.old.table }
-    requires two { IsOn board.now two.old.table }
-    requires row { board.now.board_shape.seat_of ≡ 0 ∷ 1 ∷ 0 ∷ 0 ∷ [] }
-    requires between { IsBetween (layout board.now) driver.old.knows }
-    requires first { AllRest (layout board.now) 0 one.old.knows }
-    requires second { AllRest (layout board.now) 1 two.old.knows }
-{
-    begin_next(board, driver)
-        && is_at(board, (0, 1, 1, 3), (1, 0, 0, 0))
-        && driver.woke() == 1
-        && claim_follower(board, two, 1, 1) == Some(Claim::NotYet { found: 0 })
-        && claim_follower(board, one, 0, 0) == Some(Claim::Awake { cycle: 0 })
-        && is_at(board, (0, 1, 1, 3), (2, 0, 0, 0))
+    board.shape().nodes.len() == 4
+        && board.peek(1) == pending.0
+        && board.peek(2) == pending.1
+        && board.peek(3) == pending.2
+        && board.peek(4) == pending.3
+        && board.peek(5) == status.0
+        && board.peek(6) == status.1
+        && board.peek(7) == status.2
+        && board.peek(8) == status.3
 }
 
 // On a board of the row: whether a check right after the begin names the unfinished, or else the
-// words are so.
+// words are those of a begin, and of what claims find then.
 fn begins_so(alloc: Global, checked: bool) -> bool {
     let Ok(shape) = row(alloc) else {
         return false;
     };
     match opened(alloc, &shape) {
         Ok(Some((board, mut driver, mut one, mut two))) => {
-            if checked {
-                begin_and_check(&board, &mut driver) == Some(7)
-            } else {
-                words_stand(&board, &mut driver, &mut one, &mut two)
+            if !begin_next(&board, &mut driver) {
+                return false;
             }
+            if checked {
+                return check_late(&board, &mut driver) == 7;
+            }
+            is_at(&board, (0, 1, 1, 3), (1, 0, 0, 0))
+                && driver.woke() == 1
+                && claim_follower(&board, &mut two, 1, 1) == Some(Claim::NotYet { found: 0 })
+                && claim_follower(&board, &mut one, 0, 0) == Some(Claim::Awake { cycle: 0 })
+                && is_at(&board, (0, 1, 1, 3), (2, 0, 0, 0))
         }
         _ => false,
     }

@@ -143,24 +143,8 @@ fn run_open<R: Wait>(
     );
 }
 
-// Four cycles, of which three are left: whether each went so. None where one was too early.
-fn four_cycles(board: &Board, seat: &mut DriverSeat) -> Option<bool>
-    requires pooled { IsPooledBoard (layout board.now) }
-    requires table { IsOn board.now seat.old.table }
-    requires alone { HasNoLinkIn (layout board.now) }
-    requires between { IsBetween (layout board.now) seat.old.knows }
-    ensures table { IsOn board.now seat.new.table }
-    ensures between { IfSome result (λ _. IsBetween (layout board.now) seat.new.knows) }
-{
-    let mut ticker = Every::new(2);
-    let first = one_cycle(board, seat, &mut ticker)?;
-    let second = one_cycle(board, seat, &mut ticker)?;
-    let third = one_cycle(board, seat, &mut ticker)?;
-    let fourth = one_cycle(board, seat, &mut ticker)?;
-    Some(first && second && third && !fourth)
-}
-
-// The same, and the end of the board. None where one of them went otherwise.
+// Four cycles, of which three are left, and the end of the board. None where one was too early or
+// went otherwise.
 fn closed(board: Board, seat: DriverSeat) -> Option<Closed>
     requires pooled { IsPooledBoard (layout board) }
     requires table { IsOn board seat.table }
@@ -168,8 +152,13 @@ fn closed(board: Board, seat: DriverSeat) -> Option<Closed>
     requires between { IsBetween (layout board) seat.knows }
 {
     let mut seat = seat;
-    let went = four_cycles(&board, &mut seat)?;
+    let mut ticker = Every::new(2);
+    let first = one_cycle(&board, &mut seat, &mut ticker)?;
+    let second = one_cycle(&board, &mut seat, &mut ticker)?;
+    let third = one_cycle(&board, &mut seat, &mut ticker)?;
+    let fourth = one_cycle(&board, &mut seat, &mut ticker)?;
     let driver = board.shape().driver;
+    let went = first && second && third && !fourth;
     if went && seat.ended(&board, driver) == board.shape().cycles {
         Some(board.close(seat))
     } else {
@@ -213,18 +202,13 @@ fn events_of(driver: u32) -> [Event; 13] {
     ]
 }
 
-// Whether a board is closed with the events of this driver.
-fn has_events(closed: Option<Closed>, driver: u32) -> bool {
-    match closed {
-        Some(closed) => closed.events().as_slice() == events_of(driver).as_slice(),
-        None => false,
-    }
-}
-
-// Whether this driver runs so.
+// Whether the board of this driver is closed with these events.
 fn runs_alone(alloc: Global, driver: u32) -> bool {
     match opened(alloc, driver) {
-        Ok(Some((board, seat))) => has_events(closed(board, seat), driver),
+        Ok(Some((board, seat))) => match closed(board, seat) {
+            Some(closed) => closed.events().as_slice() == events_of(driver).as_slice(),
+            None => false,
+        },
         _ => false,
     }
 }

@@ -43,18 +43,19 @@ fn send_often<R: Wait>(rt: &R, ways: &Ways, way: &mut Way, woke: u64, often: u32
     count
 }
 
-// Receives so often: how often it was this node.
-fn receive_often<R: Wait>(rt: &R, ways: &Ways, way: &mut Way, often: u32, node: u32) -> u32
+// Receives so often, or until it is another node: how often it was this one before.
+fn receive_all<R: Wait>(rt: &R, ways: &Ways, way: &mut Way, most: u32, node: u32) -> u32
     requires answered { IsWayOf ways.now way.old }
     requires own { way.old.number < ways.now.loops }
     ensures answered { IsWayOf ways.now way.new }
     ensures number { way.new.number ≡ way.old.number }
 {
     let mut count = 0u32;
-    for _ in 0..often {
-        if ways.receive(rt, way) == Some(node) {
-            count = count.saturating_add(1);
+    for _ in 0..most {
+        if ways.receive(rt, way) != Some(node) {
+            break;
         }
+        count = count.saturating_add(1);
     }
     count
 }
@@ -117,30 +118,13 @@ fn full_queue_loses_nothing<R: Wait>(
 {
     let sent = send_often(rt, ways, driver, 2, 64, 0);
     let refused = [ways.send(rt, driver, 2), ways.send(rt, second, 7)];
-    let taken = receive_often(rt, ways, first, 64, 1);
+    let taken = receive_all(rt, ways, first, 64, 1);
     let rest = [ways.receive(rt, first), ways.receive(rt, second)];
     sent == 64
         && refused == [2, 3]
         && taken == 64
         && rest == [None, Some(2)]
         && (first.taken(), second.taken()) == (64, 1)
-}
-
-// Receives until the first None, so often at most: how often it was this node before.
-fn receive_all<R: Wait>(rt: &R, ways: &Ways, way: &mut Way, most: u32, node: u32) -> u32
-    requires answered { IsWayOf ways.now way.old }
-    requires own { way.old.number < ways.now.loops }
-    ensures answered { IsWayOf ways.now way.new }
-    ensures number { way.new.number ≡ way.old.number }
-{
-    let mut count = 0u32;
-    for _ in 0..most {
-        if ways.receive(rt, way) != Some(node) {
-            break;
-        }
-        count = count.saturating_add(1);
-    }
-    count
 }
 
 // A receive finds nothing only where nothing is left: after 0, 1, 2 .. 64 pushes each is received
@@ -305,29 +289,17 @@ fn goes<R: Wait>(
     }
 }
 
-// The same with new ways.
-fn goes_anew<R: Wait>(rt: &R, alloc: Global, which: u32) -> bool {
-    match two_loops(alloc) {
-        Ok(Some((ways, mut driver, mut first, mut second))) => {
-            goes(rt, which, &ways, &mut driver, &mut first, &mut second)
-        }
-        _ => false,
-    }
-}
-
-// The first that goes otherwise.
-fn first_unlike<R: Wait>(rt: &R, alloc: Global) -> Option<u32> {
-    for which in 0..8 {
-        if !goes_anew(rt, alloc, which) {
-            return Some(which);
-        }
-    }
-    None
-}
-
 #[test]
 fn numbers_go_to_their_loops(rt: HostRuntime) -> Result<(), Fail> {
-    assert_eq!(rt; first_unlike(&rt, rt.alloc()), None);
+    for which in 0..8 {
+        let went = match two_loops(rt.alloc()) {
+            Ok(Some((ways, mut driver, mut first, mut second))) => {
+                goes(&rt, which, &ways, &mut driver, &mut first, &mut second)
+            }
+            _ => false,
+        };
+        assert_eq!(rt; (which, went), (which, true));
+    }
     Ok(())
 }
 
@@ -385,16 +357,12 @@ fn feed_and_eat<R: Threads + Wait + Sync>(rt: &R, ways: &Ways, driver: Way, own:
     taken
 }
 
-// The same with new ways.
-fn crossed<R: Threads + Wait + Sync>(rt: &R, alloc: Global) -> u64 {
-    match two_loops(alloc) {
-        Ok(Some((ways, driver, first, _second))) => feed_and_eat(rt, &ways, driver, first),
-        _ => 0,
-    }
-}
-
 #[test]
 fn a_thousand_numbers_cross(rt: HostRuntime) -> Result<(), Fail> {
-    assert_eq!(rt; crossed(&rt, rt.alloc()), 1000);
+    let taken = match two_loops(rt.alloc()) {
+        Ok(Some((ways, driver, first, _second))) => feed_and_eat(&rt, &ways, driver, first),
+        _ => 0,
+    };
+    assert_eq!(rt; taken, 1000);
     Ok(())
 }
