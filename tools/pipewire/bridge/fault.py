@@ -3,7 +3,11 @@ import sys
 
 
 class Fault(Exception):
-    """A sentence that names the place."""
+    """A sentence that names the place, and what was told before it."""
+
+    def __init__(self, sentence, told=()):
+        super().__init__(sentence)
+        self.told = list(told)
 
 
 def shown(text):
@@ -28,7 +32,12 @@ def run(tool, usage, work):
         sys.stdout.flush()
         return 0
     except Fault as fault:
+        for sentence in fault.told:
+            note(tool, sentence)
         note(tool, fault)
     except BrokenPipeError:
         sys.stderr.close()
+    except OSError as error:
+        note(tool, f"standard output: {error.strerror}")
+        sys.stdout = None
     return 1

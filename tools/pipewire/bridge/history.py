@@ -5,13 +5,16 @@ from bridge.engine import active_steps, engine_of, leader
 from bridge.fault import Fault
 from bridge.joining import Group, driven_groups
 from bridge.ordering import Work, cycle_lines, depths
-from bridge.profiler import AWAKE, FINISHED, NOT_TRIGGERED, TRIGGERED, Turn, read_log
+from bridge.profiler import AWAKE, FINISHED, NOT_TRIGGERED, TRIGGERED, Row, Turn, read_log
+from bridge.steps import stream_groups
 
 DUMMY = "dummy"
 NO_TURN = Turn(0, 0, 0, NOT_TRIGGERED)
 UNFINISHED = {NOT_TRIGGERED: "was not triggered", TRIGGERED: "was not awake",
               AWAKE: "had not finished"}
 OLDER = "was at work since before the cycle"
+FORCED = "finished after the driver was forced on"
+APART = "has streams that ran apart"
 
 
 @dataclass
@@ -19,8 +22,18 @@ class History:
     """The lines of each cycle that is written, the graph that they are of, and what is reported."""
     engine: object
     period: int
-    cycles: list = field(default_factory=list)
-    told: list = field(default_factory=list)
+    followers: int = 0
+    logged: int = 0
+    lines: int = 0
+    known: int = 0
+    cycles: list[list[str]] = field(default_factory=list)
+    told: list[str] = field(default_factory=list)
+
+    @property
+    def covered(self):
+        """What a verdict over the cycles covers, in one line: lines that repeat a cycle are none."""
+        return (f"covers: cycles {len(self.cycles)} of {self.lines}, followers {self.followers} of "
+                f"{self.logged}, driver's order known in {self.known} of {len(self.cycles)}")
 
 
 def history_of(dump, path, late):
@@ -28,7 +41,7 @@ def history_of(dump, path, late):
     `late` written as it was, with a tick that names who had not finished."""
     rows = read_log(path)
     group = logged_group(dump, path, rows)
-    engine = engine_of(dump, only=group)
+    engine = engine_of(dump, group, apart_groups(dump, rows))
     history = History(engine, rows[0].period)
     lead = leader(engine)
     active = active_steps(engine, lead)
@@ -38,9 +51,37 @@ def history_of(dump, path, late):
         cycles.logged.update(row.turns)
     for row in rows:
         cycles.add(f"{path}:{row.line}", row)
+    tell_coverage(history, cycles, group.driver)
     if not history.cycles:
-        raise Fault(f"{path}: no cycle of the log is whole")
+        raise Fault(f"{path}: no cycle of the log is whole", history.told)
+    if not history.followers:
+        raise Fault(f"{path}: no follower of the log is in the script", history.told)
     return history
+
+
+def tell_coverage(history, cycles, driver):
+    """Counts the followers that the log names, nodes of PipeWire, and those that are judged."""
+    judged = {id for step in cycles.followers for id in step.ids}
+    followers = cycles.logged - ({driver.id} if driver else set())
+    history.logged, history.followers = len(followers), len(followers & judged)
+    history.told.append(history.covered)
+
+
+def apart_groups(dump, rows):
+    """The groups whose streams do not wait for each other: in more than half of the cycles one that
+    gives had finished before one that takes was awake, so that it gave what was of a cycle before."""
+    found = set()
+    for name, (entries, exits) in stream_groups(list(dump.nodes.values())).items():
+        before = after = 0
+        for row in rows:
+            turns = [[row.turns[node.id] for node in side if node.id in row.turns]
+                     for side in (entries, exits)]
+            if all(turns) and all(turn.status == FINISHED for side in turns for turn in side):
+                is_before = min(it.finish for it in turns[1]) < max(it.awake for it in turns[0])
+                before, after = before + is_before, after + (not is_before)
+        if before > after:
+            found.add(name)
+    return found
 
 
 def logged_group(dump, path, rows):
@@ -83,18 +124,23 @@ class Cycles:
         self.history, self.late, self.lead, self.driver = history, late, lead, driver
         self.name = lead.name if lead else DUMMY
         self.followers = [step for step in active if step is not lead]
+        self.fed = {wire.target for wire in history.engine.wires}
         self.depth = depths(history.engine, self.followers)
-        self.logged, self.last = set(), None
+        self.logged, self.last, self.before = set(), None, None
 
     def add(self, place, row):
         """Adds the cycle of a row, or reports why it is left out."""
-        repeated, self.last = row.repeats(self.last), row
-        if repeated:
+        if row.repeats(self.last):
             return self.tell(f"{place}: left out: the line before it again")
+        before, self.last = self.last, row
         if row.counts_from_before:
             return self.tell(f"{place}: left out: written when the next cycle began; "
                              "the next line is of the same cycle")
-        works = [self.work(step, row) for step in self.followers]
+        self.history.lines += 1
+        forced = before is not None and before.counts_from_before
+        whole = self.before or Row(0, 0, 0, 0, {})
+        self.before = row
+        works = [self.work(step, row, whole, forced) for step in self.followers]
         why = ", ".join(f"{work.step.name} {work.why}" for work in works if work.why)
         if why and not self.late:
             return self.tell(f"{place}: left out: {why}")
@@ -102,25 +148,52 @@ class Cycles:
         if why:
             self.tell(f"{place}: cycle {number}: {why}")
         ended = None if row.is_cut else row.finish
+        self.history.known += ended is not None
         self.history.cycles.append(cycle_lines(number, works, self.depth, self.name, ended,
                                                late_check(row, works)))
 
     def tell(self, sentence):
         self.history.told.append(sentence)
 
-    def work(self, step, row):
-        """When a step ran: of two streams from the wake of the first to the finish of the other.
-        A source that drives has its samples when the cycle begins."""
+    def work(self, step, row, before, forced):
+        """When a step ran: of several streams from the last wake of those that take samples to the
+        first finish of those that give them, since what follows one of them need not wait for the
+        others. A source that drives has its samples when the cycle begins."""
         if self.driver in step.nodes:
             return Work(step, 0, 0)
-        ids = [id for id in step.ids if id in self.logged] or step.ids
-        turns = [row.turns.get(id, NO_TURN) for id in ids]
-        status = min(turn.status for turn in turns)
-        start = turns[0].awake if turns[0].status >= AWAKE else None
-        if status < FINISHED:
-            return Work(step, start, None, UNFINISHED[status])
-        older = any(turn.awake == 0 for turn in turns)
-        return Work(step, start, turns[-1].finish, OLDER if older else "")
+        entries, exits = self.turns(step.entries, row), self.turns(step.exits, row)
+        entries, exits = entries or exits, exits or entries
+        start = None
+        if all(turn.status >= AWAKE for turn in entries.values()):
+            start = max(turn.awake for turn in entries.values())
+        for side in (entries, exits):
+            status = min(turn.status for turn in side.values())
+            if status < FINISHED:
+                return Work(step, start, None, UNFINISHED[status])
+        finish = min(turn.finish for turn in exits.values())
+        turns = {**entries, **exits}
+        why = ""
+        if any(is_older(turn, before.turns.get(id, NO_TURN), step in self.fed)
+               for id, turn in turns.items()):
+            why = OLDER
+        elif finish < start:
+            why = APART
+        elif forced and not row.is_cut and max(it.finish for it in turns.values()) > row.finish:
+            why = FORCED
+        return Work(step, start, finish, why)
+
+    def turns(self, nodes, row):
+        """The turns of those nodes that the log has."""
+        return {node.id: row.turns.get(node.id, NO_TURN)
+                for node in nodes if node.id in self.logged}
+
+
+def is_older(turn, before, is_fed):
+    """Whether a turn is of a trigger before the cycle: it woke before the driver's signal or its
+    own, or it is linked to others and was not triggered again after a cycle that it had not
+    finished. Who is linked to nobody may be triggered by the driver in the microsecond 0."""
+    return turn.awake == 0 or turn.awake < turn.signal or \
+        (is_fed and turn.signal == 0 and before.status in (TRIGGERED, AWAKE))
 
 
 def late_check(row, works):

@@ -41,7 +41,7 @@ def driven_groups(dump, nodes):
     """The nodes that share a driver, group by group."""
     sets = Sets([node.id for node in nodes])
     for link in dump.links:
-        if link.output_node in sets.above and link.input_node in sets.above:
+        if link.state != "error" and link.output_node in sets.above and link.input_node in sets.above:
             sets.join(link.output_node, link.input_node)
     for key in ("node.group", "node.link-group"):
         first = {}

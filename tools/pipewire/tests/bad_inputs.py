@@ -71,7 +71,9 @@ LOGS = [
     (log([ROW, (33, 1, 2, 3)], [ROW, (44, 1, 2, 3)]),
      "bad.log:2: node 44 is not in small.json: both have to be recorded of the same graph"),
     (log([ROW]), "bad.log: no line has a follower"),
-    (log([ROW, (33, 1, 2, 1)]), "bad.log: no cycle of the log is whole"),
+    (log([ROW, (33, 1, 2, 1)]), "bad.log:1: left out: source was not awake\n"
+     "TOOL: covers: cycles 0 of 1, followers 1 of 1, driver's order known in 0 of 0\n"
+     "TOOL: bad.log: no cycle of the log is whole"),
     ("1\t2\t3\t4\t\u00e9\n", "bad.log: this is no log of pw-profiler: byte 8 is no ASCII"),
 ]
 
@@ -101,6 +103,7 @@ FORMATS = [
 
 
 def refused(asking, what, answer, tool, sentence):
+    sentence = sentence.replace("TOOL", tool)
     asking.same(what, (1, "", f"{tool}: {sentence}\n"), answer.whole())
 
 
