@@ -19,7 +19,8 @@ APART = "has streams that ran apart"
 
 @dataclass
 class History:
-    """The lines of each cycle that is written, the graph that they are of, and what is reported."""
+    """The lines of each cycle that is written with the line of the log that each is of, the graph
+    that they are of, and what is reported."""
     engine: object
     period: int
     followers: int = 0
@@ -28,6 +29,7 @@ class History:
     known: int = 0
     cycles: list[list[str]] = field(default_factory=list)
     told: list[str] = field(default_factory=list)
+    places: list[int] = field(default_factory=list)
 
     @property
     def covered(self):
@@ -36,10 +38,11 @@ class History:
                 f"{self.logged}, driver's order known in {self.known} of {len(self.cycles)}")
 
 
-def history_of(dump, path, late):
-    """The cycles of a log. A cycle in which a follower did not start and finish is left out, or with
-    `late` written as it was, with a tick that names who had not finished."""
-    rows = read_log(path)
+def history_of(dump, path, late, rows=None):
+    """The cycles of a log, of which the rows may have been read. A cycle in which a follower did not
+    start and finish is left out, or with `late` written as it was, with a tick that names who had
+    not finished."""
+    rows = read_log(path) if rows is None else rows
     group = logged_group(dump, path, rows)
     engine = engine_of(dump, group, apart_groups(dump, rows))
     history = History(engine, rows[0].period)
@@ -149,6 +152,7 @@ class Cycles:
             self.tell(f"{place}: cycle {number}: {why}")
         ended = None if row.is_cut else row.finish
         self.history.known += ended is not None
+        self.history.places.append(row.line)
         self.history.cycles.append(cycle_lines(number, works, self.depth, self.name, ended,
                                                late_check(row, works)))
 

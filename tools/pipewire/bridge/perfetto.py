@@ -19,7 +19,7 @@ def trace_events(dump, rows, blame):
     bad, start, flow = {it.line: it for it in blame.bad}, 0, 0
     for row in own_rows(rows):
         start += row.period if row.is_cut else row.between
-        culprits = dict(bad[row.line].culprits) if row.line in bad else {}
+        culprits = bad[row.line].judgement.culprits if row.line in bad else []
         for id, turn in row.turns.items():
             events += slices(dump, id, turn, start, row, id in culprits)
         for link in sorted({(it.output_node, it.input_node) for it in dump.links}):

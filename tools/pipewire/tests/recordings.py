@@ -173,9 +173,36 @@ def culprits_are_named(asking):
         '"b.in" (id 33), "b.out" (id 32), "sinkA" (id 16)'
         for line, at in [(22, 87), (24, 93), (26, 112), (49, 98), (51, 89), (75, 79), (77, 67)]],
         bad)
+    asking.same("late_chain: the table's line of a.in",
+                ['"a.in" (id 44)\t85\t7\t0\t0\t17433\t4278'],
+                [line for line in done.text.splitlines() if line.startswith('"a.in"')])
     asking.same("late_chain: covers",
                 "covers: cycles 85 of 92, followers 5 of 5, driver's order known in 83 of 85",
                 asking.tool("trace", dump, log).errors.splitlines()[-1].removeprefix("trace: "))
+
+
+# Lines of a log in which a status is 1 or 2, without those of which the next line is the same cycle;
+# of these the ones that the next line's first column is under half a period after are the driver's,
+# and a follower's are those whose second column is three quarters of a period or more and whose
+# first is more than half of one. leftover: line 16, 106 after. forced: lines 21 23 47 49 72 74 98;
+# 50 began 37 after the line before it, and 100 150. busy: a follower's are 78 98 116 120; the
+# statuses of 76 79 82 118 122 are of an earlier time, and 114 began 33 after 112.
+XRUNS = {"late": (8, 8, 0, 0), "tap": (7, 7, 0, 0), "leftover": (1, 0, 1, 0),
+         "forced": (9, 0, 7, 2), "busy": (24, 4, 14, 6), "players": (0, 0, 0, 0)}
+
+
+def xruns_are_summed(asking):
+    """Whose each xrun was, and where check and the statuses differ: in line 17 of leftover.log the
+    recorder is at the work of the cycle before, with status 3."""
+    for scene, (all, followers, driver, undecided) in XRUNS.items():
+        dump, log = recording(scene)
+        lines = asking.tool("why", dump, log).text.splitlines()
+        asking.same(f"{scene}: xruns", f"xruns: {all}, by followers {followers}, by the driver "
+                    f"{driver}, not decided {undecided}",
+                    next((line for line in lines if line.startswith("xruns: ")), None))
+        differs = [f"{log}:17: differs: check does not allow it, and no follower was late by its "
+                   "status"] if scene == "leftover" else []
+        asking.same(f"{scene}: check and statuses", differs, lines[lines.index("verdict: legal") + 2:])
 
 
 def left_out_by_name(asking):
@@ -208,4 +235,4 @@ def left_out_by_name(asking):
 
 
 TESTS = [scripts_run, scripts_say, plain_cycles_are_legal, events_say, late_cycles_are_illegal,
-         culprits_are_named, left_out_by_name]
+         culprits_are_named, xruns_are_summed, left_out_by_name]
