@@ -11,9 +11,8 @@ from dataclasses import dataclass, field
 from typing import Callable, Optional
 
 from bridge.dump import Dump, Node
-from bridge.profiler import AWAKE, FINISHED, NOT_TRIGGERED, TRIGGERED, Row, Turn
+from bridge.profiler import AWAKE, FINISHED, NO_TURN, NOT_TRIGGERED, TRIGGERED, Row, Turn
 
-NO_TURN = Turn(0, 0, 0, NOT_TRIGGERED)
 ENOUGH = 0.75  # of a period: what a follower has to have had before it is called late
 BY_FOLLOWERS, BY_DRIVER, UNDECIDED = "follower", "driver", "undecided"
 

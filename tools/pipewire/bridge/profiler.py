@@ -6,17 +6,18 @@ follower eight: id, signal, awake and finish after the driver's signal (0 where 
 it), awake - signal, finish - awake, status, 0. A follower that was not triggered has blanks.
 Where one of the driver's first two times is more than 1.3 periods, both are cut to 1.4 periods.
 """
-from dataclasses import dataclass
+from dataclasses import dataclass, field
+from typing import Dict, List, NamedTuple
 
 from bridge.fault import Fault, shown
 
 OF_DRIVER, OF_FOLLOWER = 4, 8
 NOT_TRIGGERED, TRIGGERED, AWAKE, FINISHED = 0, 1, 2, 3
 CUT_FROM, CUT_TO = 1.3, 1.4
+PLAIN = b"0123456789 \t\r\n"
 
 
-@dataclass
-class Turn:
+class Turn(NamedTuple):
     """What the log tells of a follower in a cycle."""
     signal: int
     awake: int
@@ -24,14 +25,18 @@ class Turn:
     status: int
 
 
+NO_TURN = Turn(0, 0, 0, NOT_TRIGGERED)
+
+
 @dataclass
 class Row:
     """A line of the log: the driver's times, and the turns of its followers by their ids."""
+    __slots__ = "line", "between", "finish", "period", "turns"
     line: int
     between: int
     finish: int
     period: int
-    turns: dict
+    turns: Dict[int, Turn]
 
     @property
     def is_cut(self):
@@ -42,60 +47,109 @@ class Row:
     def counts_from_before(self):
         """The line was written when the next cycle began and this one had not ended; its times
         count from the signal of the cycle before, and the next line has them from its own."""
-        first = min((turn.signal for turn in self.turns.values()), default=0)
-        return self.between == 0 or (self.is_cut and first > CUT_FROM * self.period)
+        if self.between == 0:
+            return True
+        return self.is_cut and min((turn.signal for turn in self.turns.values()), default=0) \
+            > CUT_FROM * self.period
 
     def repeats(self, other):
         """The same cycle, logged twice."""
-        return other is not None and (self.between, self.finish, self.turns) == \
-            (other.between, other.finish, other.turns)
+        return other is not None and self.between == other.between \
+            and self.finish == other.finish and self.turns == other.turns
+
+
+@dataclass
+class Log:
+    """The lines of a log, and what is told of it."""
+    path: str
+    rows: List[Row] = field(default_factory=list)
+    told: List[str] = field(default_factory=list)
+
+    @property
+    def ids(self):
+        """The followers, in the order in which they come."""
+        return dict.fromkeys(id for row in self.rows for id in row.turns)
 
 
 def read_log(path):
-    """The lines of a log."""
+    """The lines of a log. The last one is left out where it was cut, which shows in that it has no
+    end; and told is where the period changes."""
+    log, number, at = Log(path), 0, 0
     try:
-        with open(path, encoding="ascii") as file:
-            lines = file.read().split("\n")
-    except UnicodeDecodeError as error:
-        raise Fault(f"{path}: this is no log of pw-profiler: byte {error.start} is no ASCII") \
-            from None
+        with open(path, "rb") as file:
+            for number, line in enumerate(file, 1):
+                if line.isspace():
+                    pass
+                elif log.rows and not line.endswith(b"\n"):
+                    log.told.append(f"{path}:{number}: left out: the line was cut")
+                else:
+                    add_row(log, number, at, line)
+                at += len(line)
     except OSError as error:
         raise Fault(f"{path}: {error.strerror}") from None
-    rows = [read_row(f"{path}:{number}", number, line)
-            for number, line in enumerate(lines, 1) if line.strip()]
-    if not rows:
+    if not log.rows:
         raise Fault(f"{path}: the log has no line")
-    return rows
+    return log
+
+
+def add_row(log, number, at, line):
+    """Takes in a line, which begins at a byte of the file."""
+    if not line.isascii():
+        byte = at + next(k for k, it in enumerate(line) if it > 127)
+        raise Fault(f"{log.path}: this is no log of pw-profiler: byte {byte} is no ASCII")
+    row = read_row(f"{log.path}:{number}", number, line)
+    if log.rows and row.period != log.rows[-1].period:
+        log.told.append(f"{log.path}:{number}: note: the period was {log.rows[-1].period} and is "
+                        f"{row.period} from here on; the script has the quantum of the first line")
+    log.rows.append(row)
 
 
 def read_row(place, number, line):
-    """One line."""
-    columns = line.split("\t")
-    if columns[-1] == "":
-        columns.pop()
-    rest = len(columns) - OF_DRIVER
-    if rest < 0 or rest % OF_FOLLOWER:
-        raise Fault(f"{place}: {len(columns)} columns: a line has {OF_DRIVER} for the driver and "
+    """One line, its end and blanks at its end included."""
+    line = line.rstrip(b"\r\n")
+    count = line.count(b"\t") + (not line.endswith(b"\t"))
+    if count < OF_DRIVER or (count - OF_DRIVER) % OF_FOLLOWER:
+        raise Fault(f"{place}: {count} columns: a line has {OF_DRIVER} for the driver and "
                     f"{OF_FOLLOWER} for each follower, parted by tabs")
-    between, finish, _, period = [count(place, at + 1, columns[at]) for at in range(OF_DRIVER)]
-    turns = {}
+    columns = line.rstrip().split(b"\t")
+    columns += [b" "] * (min(count, -(-(len(columns) - OF_DRIVER) // OF_FOLLOWER) * OF_FOLLOWER
+                             + OF_DRIVER) - len(columns))
+    is_plain = not line.translate(None, PLAIN)
+    between, finish, _, period = numbers(place, 0, columns[:OF_DRIVER], is_plain)
+    turns: Dict[int, Turn] = {}
     for at in range(OF_DRIVER, len(columns), OF_FOLLOWER):
         part = columns[at:at + OF_FOLLOWER]
-        if all(not column.strip() for column in part):
-            continue
-        id, signal, awake, end, _, _, status, _ = [
-            count(place, at + 1 + k, column) for k, column in enumerate(part)]
-        if not TRIGGERED <= status <= FINISHED:
-            raise Fault(f"{place}: column {at + 7}: {status} is no status of a follower, 1 to 3")
-        if id in turns:
-            raise Fault(f"{place}: column {at + 1}: node {id} stands twice")
-        turns[id] = Turn(signal, awake, end, status)
+        if part[0].strip() or b"".join(part).strip():
+            add_turn(place, at, turns, numbers(place, at, part, is_plain))
     return Row(number, between, finish, period, turns)
+
+
+def add_turn(place, at, turns, part):
+    """Takes in the eight numbers of a follower."""
+    id, signal, awake, end, _, _, status, _ = part
+    if not TRIGGERED <= status <= FINISHED:
+        raise Fault(f"{place}: column {at + 7}: {status} is no status of a follower, 1 to 3")
+    if id in turns:
+        raise Fault(f"{place}: column {at + 1}: node {id} stands twice")
+    turns[id] = Turn(signal, awake, end, status)
+
+
+def numbers(place, at, columns, is_plain):
+    """The numbers of columns, which follow the first `at` of the line; of a line of digits and
+    blanks alone they are taken as they stand."""
+    if is_plain:
+        try:
+            found = [int(column) for column in columns]
+            if max(found) < 10 ** 18:
+                return found
+        except ValueError:
+            pass
+    return [count(place, at + 1 + k, column) for k, column in enumerate(columns)]
 
 
 def count(place, column, text):
     """A number of a column."""
     text = text.strip()
     if not text.isdigit() or len(text) > 18:
-        raise Fault(f"{place}: column {column}: {shown(text)} is no number")
+        raise Fault(f"{place}: column {column}: {shown(text.decode('ascii'))} is no number")
     return int(text)
