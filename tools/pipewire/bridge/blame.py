@@ -5,7 +5,8 @@ activation: a node that was triggered has no source that it waits for, so where 
 the delay is its own; one that was not triggered waited. A log has no more than that, so a culprit
 is named only where the columns leave no other: the driver where it went on within half a period,
 and a follower where it had been triggered for more than half of a period, in a cycle that had three
-quarters of one and did not begin while the driver was catching up. Every other bad cycle is said to be undecided, with the reason.
+quarters of one and did not begin while the driver was catching up. Every other bad cycle is said to
+be undecided, with the reason.
 """
 from dataclasses import dataclass, field
 from typing import Callable, Optional
