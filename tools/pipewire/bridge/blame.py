@@ -71,10 +71,11 @@ def own_rows(rows):
 
 
 class Blaming:
-    """Takes the rows of a log one after the other; the driver is an id, or None."""
+    """Takes the rows of a log one after the other; the driver is an id, or None. Nobody waits for
+    the nodes that are `passed` over, the async ones."""
 
-    def __init__(self, driver: Optional[int], process: Callable[[int], object]):
-        self.driver, self.process = driver, process
+    def __init__(self, driver: Optional[int], process: Callable[[int], object], passed):
+        self.driver, self.process, self.passed = driver, process, {driver, *passed}
         self.found = Blame()
         self.held: Optional[Row] = None
         self.last: Optional[Row] = None
@@ -103,25 +104,25 @@ class Blaming:
         if row is None:
             return
         for id, turn in row.turns.items():
-            if id != self.driver:
+            if id not in self.passed:
                 self.first_line.setdefault(id, row.line)
                 self.last_line[id] = row.line
                 count_turn(self.found.counts.setdefault(id, Count()), turn)
         unfinished = {id: turn for id, turn in row.turns.items()
-                      if id != self.driver and turn.status in (TRIGGERED, AWAKE)}
+                      if id not in self.passed and turn.status in (TRIGGERED, AWAKE)}
         if unfinished:
             self.found.bad.append(BadCycle(row.line, unfinished, self.waiting(row),
                                            judgement_of(row, after, unfinished, self.process)))
 
     def waiting(self, row):
         """The followers that the log had named before and that were not triggered."""
-        return [id for id in self.found.counts if id != self.driver
+        return [id for id in self.found.counts if id not in self.passed
                 and row.turns.get(id, NO_TURN).status == NOT_TRIGGERED]
 
 
-def blame_of(rows, driver, process=lambda id: id):
+def blame_of(rows, driver, process=lambda id: id, passed=()):
     """Who made the xruns of these rows. `process` says which process an id is of."""
-    blaming = Blaming(driver, process)
+    blaming = Blaming(driver, process, passed)
     for row in rows:
         blaming.add(row)
     return blaming.end()

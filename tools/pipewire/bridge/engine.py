@@ -34,7 +34,7 @@ def engine_of(dump, only=None, apart=()):
         engine.groups = driven_groups(dump, nodes)
     else:
         engine.groups = [only]
-        nodes = of_group(engine, nodes, only)
+        nodes = without_async(engine, of_group(engine, nodes, only), only)
     if not nodes:
         raise Fault(f"{dump.path}: no node with audio ports, of which a script could be")
     engine.steps = limited(engine, make_steps(nodes, apart))
@@ -88,6 +88,15 @@ def of_group(engine, nodes, group):
         if node.id not in group.ids:
             engine.leave_out(node.said, "another driver's, of which the log tells nothing")
     return [node for node in nodes if node.id in group.ids]
+
+
+def without_async(engine, nodes, group):
+    """The nodes of a group that its driver waits for."""
+    for node in nodes:
+        if node.is_asynchronous and node is not group.driver:
+            engine.leave_out(node.said, "it is async: the driver does not wait for it, and what the "
+                             "log has of it may be of the cycle before")
+    return [node for node in nodes if node is group.driver or not node.is_asynchronous]
 
 
 def limited(engine, steps):

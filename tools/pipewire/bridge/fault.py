@@ -21,6 +21,15 @@ def note(tool, sentence):
     print(f"{tool}: {sentence}", file=sys.stderr)
 
 
+def store(path, text):
+    """Writes a file."""
+    try:
+        with open(path, "w", encoding="utf-8") as file:
+            file.write(text)
+    except OSError as error:
+        raise Fault(f"{path}: {error.strerror}") from None
+
+
 def run(tool, usage, work):
     """Runs a tool: its text goes out only when all of it is there."""
     words = sys.argv[1:]

@@ -102,6 +102,9 @@ def logged_group(dump, log):
         ids += group.ids
     if not ids:
         raise Fault(f"{log.path}: no line has a follower")
+    if driver and log.driver not in (None, driver.id):
+        raise Fault(f"{log.path}: the log is of driver {log.driver}, and by {dump.path} "
+                    f"{driver.said} drives its followers")
     return Group(driver, ids)
 
 

@@ -3,16 +3,17 @@
 Source: the tool's own output (PipeWire 0.3.65). Columns are parted by tabs: for the driver the time
 between its last two signals, its finish after its signal, the delay, the period; then for each
 follower eight: id, signal, awake and finish after the driver's signal (0 where they were before
-it), awake - signal, finish - awake, status, 0. A follower that was not triggered has blanks.
+it), awake - signal, finish - awake, status, 0. A follower that was not triggered has blanks, and of
+one that is inactive (status 4 of 1.x) the times are of before and say nothing.
 Where one of the driver's first two times is more than 1.3 periods, both are cut to 1.4 periods.
 """
-from dataclasses import dataclass, field
-from typing import Dict, List, NamedTuple
+from dataclasses import dataclass
+from typing import Dict, NamedTuple
 
 from bridge.fault import Fault, shown
 
 OF_DRIVER, OF_FOLLOWER = 4, 8
-NOT_TRIGGERED, TRIGGERED, AWAKE, FINISHED = 0, 1, 2, 3
+NOT_TRIGGERED, TRIGGERED, AWAKE, FINISHED, INACTIVE = 0, 1, 2, 3, 4
 CUT_FROM, CUT_TO = 1.3, 1.4
 PLAIN = b"0123456789 \t\r\n"
 
@@ -58,52 +59,6 @@ class Row:
             and self.finish == other.finish and self.turns == other.turns
 
 
-@dataclass
-class Log:
-    """The lines of a log, and what is told of it."""
-    path: str
-    rows: List[Row] = field(default_factory=list)
-    told: List[str] = field(default_factory=list)
-
-    @property
-    def ids(self):
-        """The followers, in the order in which they come."""
-        return dict.fromkeys(id for row in self.rows for id in row.turns)
-
-
-def read_log(path):
-    """The lines of a log. The last one is left out where it was cut, which shows in that it has no
-    end; and told is where the period changes."""
-    log, number, at = Log(path), 0, 0
-    try:
-        with open(path, "rb") as file:
-            for number, line in enumerate(file, 1):
-                if line.isspace():
-                    pass
-                elif log.rows and not line.endswith(b"\n"):
-                    log.told.append(f"{path}:{number}: left out: the line was cut")
-                else:
-                    add_row(log, number, at, line)
-                at += len(line)
-    except OSError as error:
-        raise Fault(f"{path}: {error.strerror}") from None
-    if not log.rows:
-        raise Fault(f"{path}: the log has no line")
-    return log
-
-
-def add_row(log, number, at, line):
-    """Takes in a line, which begins at a byte of the file."""
-    if not line.isascii():
-        byte = at + next(k for k, it in enumerate(line) if it > 127)
-        raise Fault(f"{log.path}: this is no log of pw-profiler: byte {byte} is no ASCII")
-    row = read_row(f"{log.path}:{number}", number, line)
-    if log.rows and row.period != log.rows[-1].period:
-        log.told.append(f"{log.path}:{number}: note: the period was {log.rows[-1].period} and is "
-                        f"{row.period} from here on; the script has the quantum of the first line")
-    log.rows.append(row)
-
-
 def read_row(place, number, line):
     """One line, its end and blanks at its end included."""
     line = line.rstrip(b"\r\n")
@@ -127,11 +82,12 @@ def read_row(place, number, line):
 def add_turn(place, at, turns, part):
     """Takes in the eight numbers of a follower."""
     id, signal, awake, end, _, _, status, _ = part
-    if not TRIGGERED <= status <= FINISHED:
-        raise Fault(f"{place}: column {at + 7}: {status} is no status of a follower, 1 to 3")
+    if not TRIGGERED <= status <= INACTIVE:
+        raise Fault(f"{place}: column {at + 7}: {status} is no status of a follower, 1 to 4")
     if id in turns:
         raise Fault(f"{place}: column {at + 1}: node {id} stands twice")
-    turns[id] = Turn(signal, awake, end, status)
+    if status != INACTIVE:
+        turns[id] = Turn(signal, awake, end, status)
 
 
 def numbers(place, at, columns, is_plain):

@@ -88,8 +88,8 @@ def stream_groups(nodes):
     """By its name each node.link-group whose streams take samples and give them: who does which."""
     by_group, found = {}, {}
     for node in nodes:
-        if node.properties.get("node.link-group"):
-            by_group.setdefault(str(node.properties["node.link-group"]), []).append(node)
+        for name in node.groups("node.link-group")[:1]:
+            by_group.setdefault(name, []).append(node)
     for name, members in by_group.items():
         entries = [node for node in members if node.audio(True) and not node.audio(False)]
         exits = [node for node in members if node.audio(False) and not node.audio(True)]

@@ -36,7 +36,8 @@ def replaced(dump, place, key, value):
 DUMPS = [
     ("", "bad.json:1:1: this is no JSON: Expecting value"),
     ("[\n {", "bad.json:2:3: this is no JSON: Expecting property name enclosed in double quotes"),
-    ("[] []", "bad.json:1:4: this is no JSON: Extra data"),
+    ("[] x", "bad.json:1:4: this is no JSON: Expecting value"),
+    ("[] {}", "bad.json: this is no list of objects, as pw-dump prints it"),
     ("{}", "bad.json: this is no list of objects, as pw-dump prints it"),
     ("[7]", 'bad.json: object 0 of the list has no "id", as pw-dump prints it'),
     ('[{"type": "x"}]', 'bad.json: object 0 of the list has no "id", as pw-dump prints it'),
@@ -66,7 +67,7 @@ LOGS = [
     ("1\t2\tx\t4\t\n" + log([ROW, (33, 1, 2, 3)]), 'bad.log:1: column 3: "x" is no number'),
     (log([ROW, (33, 1, 2, 3)], [ROW, (33, 4711, 4712, 3)]).replace("4711", "4s", 1),
      'bad.log:2: column 6: "4s" is no number'),
-    (log([ROW, (33, 1, 2, 7)]), "bad.log:1: column 11: 7 is no status of a follower, 1 to 3"),
+    (log([ROW, (33, 1, 2, 7)]), "bad.log:1: column 11: 7 is no status of a follower, 1 to 4"),
     (log([ROW, (33, 1, 2, 3), (33, 1, 2, 3)]), "bad.log:1: column 13: node 33 stands twice"),
     (log([ROW, (33, 1, 2, 3)], [ROW, (44, 1, 2, 3)]),
      "bad.log:2: node 44 is not in small.json: both have to be recorded of the same graph"),
@@ -131,9 +132,14 @@ def files_that_are_not_there(asking):
             ("graph", ["no.json"], "no.json: No such file or directory"),
             ("trace", ["small.json", "no.log"], "no.log: No such file or directory"),
             ("trace", ["small.json"],
-             "the words are DUMP.json PROFILER.log, with --late or without it"),
+             "the words are DUMP.json PROFILER.log, with --late, --driver ID, --script SCRIPT or "
+             "without them"),
             ("graph", ["small.json", "--late"], "the words are DUMP.json, or DUMP.json "
-             "PROFILER.log with --late or without it"),
+             "PROFILER.log with --late, --driver ID or without them"),
+            ("why", ["small.json"], "the words are DUMP.json PROFILER.log, with --driver ID, "
+             "--perfetto OUT.json or --picture LINE or without them"),
+            ("trace", ["small.json", "no.log", "--driver", "x"], "the words are DUMP.json "
+             "PROFILER.log, with --late, --driver ID, --script SCRIPT or without them"),
             ("formats", ["small.json"], "the words are DUMP.json NODE, or DUMP.json NODE NODE")]:
         refused(asking, f"{tool} {words}", asking.tool(tool, *words), tool, sentence)
 
