@@ -10,13 +10,15 @@ import time
 import wave
 from pathlib import Path
 
+from bridge.fault import Fault
+
 PROGRAMS = ["pipewire", "wireplumber", "dbus-run-session", "pw-dump", "pw-link", "pw-cat",
             "pw-loopback", "pw-profiler"]
 INSTALL = "apt-get install pipewire pipewire-bin wireplumber libspa-0.2-modules dbus"
 
 CONFIGURATION = """
 context.properties = { log.level = 1  core.daemon = true  core.name = pipewire-0
-    default.clock.rate = 48000  default.clock.quantum = 1024 }
+    default.clock.rate = %d  default.clock.quantum = 1024 }
 context.spa-libs = {
     audio.convert.* = audioconvert/libspa-audioconvert
     audio.adapt = audioconvert/libspa-audioconvert
@@ -54,26 +56,38 @@ def sink(name, position="FL FR", more=""):
 class Daemon:
     """A daemon in a folder of its own; every process that it starts ends with it."""
 
-    def __init__(self, folder, objects, manager=True):
+    def __init__(self, folder, objects, manager=True, rate=48000):
         self.folder, self.manager = Path(folder), manager
         self.children = []
         runtime = self.folder / "runtime"
         runtime.mkdir(mode=0o700)
         self.environment = {**os.environ, "XDG_RUNTIME_DIR": str(runtime), "HOME": str(folder),
                             "LC_ALL": "C.UTF-8", "PIPEWIRE_RUNTIME_DIR": str(runtime)}
-        (self.folder / "daemon.conf").write_text(CONFIGURATION % objects)
+        (self.folder / "daemon.conf").write_text(CONFIGURATION % (rate, objects))
 
     def __enter__(self):
         signal.signal(signal.SIGTERM, lambda *_: sys.exit(1))  # so that the children end then too
+        try:
+            self.begin()
+        except BaseException:
+            self.end()
+            raise
+        return self
+
+    def begin(self):
+        """The daemon, and a session manager where one is wanted."""
         tone(self.folder / "tone.wav")
         self.start("pipewire", "-c", str(self.folder / "daemon.conf"))
         self.wait(lambda: (self.folder / "runtime/pipewire-0").exists(), "the daemon's socket")
         if self.manager:
             self.start("dbus-run-session", "--", "wireplumber")
             time.sleep(2.5)
-        return self
 
     def __exit__(self, *_):
+        self.end()
+
+    def end(self):
+        """Ends every process that was started, one that is stopped too."""
         for child in reversed(self.children):
             if child.poll() is None:
                 os.killpg(child.pid, signal.SIGCONT)
@@ -111,7 +125,7 @@ class Daemon:
             if holds():
                 return
             time.sleep(0.05)
-        raise RuntimeError(f"waited {seconds} s for {what}")
+        raise Fault(f"waited {seconds} s for {what}, in vain")
 
     def play(self, target, name="player", latency="1024"):
         """A player of the tone."""
@@ -120,9 +134,9 @@ class Daemon:
         time.sleep(0.4)
         return child
 
-    def loopback(self, name, capture, playback):
+    def loopback(self, name, capture, playback, channels="[ FL FR ]"):
         """Two streams that pass on what they get."""
-        child = self.start("pw-loopback", "-n", name, "-m", "[ FL FR ]",
+        child = self.start("pw-loopback", "-n", name, "-m", channels,
                            "--capture-props", json.dumps(capture),
                            "--playback-props", json.dumps(playback))
         time.sleep(0.6)

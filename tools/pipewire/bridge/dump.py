@@ -1,9 +1,11 @@
 """What `pw-dump` prints: the nodes, ports, links and clients of a daemon.
 
 Source: the tool's own output (PipeWire 0.3.65) and PipeWire's documentation of the properties,
-"pipewire/keys.h": node.driver, priority.driver, node.group, node.link-group, port.monitor.
+"pipewire/keys.h": node.driver, priority.driver, node.group, node.link-group, port.monitor; and of
+1.4.2 node.async, link.async, node.driver-id, and the lists of `pw-dump -m`.
 """
 import json
+import re
 from dataclasses import dataclass, field
 
 from bridge.fault import Fault, shown
@@ -11,6 +13,7 @@ from bridge.fault import Fault, shown
 KINDS = {"PipeWire:Interface:Node": "node", "PipeWire:Interface:Port": "port",
          "PipeWire:Interface:Link": "link", "PipeWire:Interface:Client": "client",
          "PipeWire:Interface:Metadata": "metadata"}
+SPACES, NAMES = re.compile(r"[ \t\r\n]*"), re.compile(r"[^][\s,\"]+")
 LINK_ENDS = ["output-node-id", "output-port-id", "input-node-id", "input-port-id"]
 
 
@@ -50,6 +53,7 @@ class Node:
     properties: dict
     params: dict
     ports: list = field(default_factory=list)
+    has_async_link: bool = False
 
     @property
     def name(self):
@@ -75,7 +79,20 @@ class Node:
 
     @property
     def is_asynchronous(self):
-        return is_true(self.properties.get("node.async"))
+        """The daemon says so of its links too: before 1.2 node.async was a word that none knew."""
+        return is_true(self.properties.get("node.async")) and self.has_async_link
+
+    @property
+    def driver_id(self):
+        """The node that drives it, where the daemon says so."""
+        return whole(self.properties.get("node.driver-id"), None)
+
+    def groups(self, key):
+        """The names of a node.group or node.link-group, which may be several."""
+        value = self.properties.get(key)
+        if isinstance(value, str) and value.lstrip().startswith("["):
+            return NAMES.findall(value)
+        return [str(it) for it in value] if isinstance(value, list) else [str(value)] if value else []
 
     def audio(self, is_input, monitor=False):
         """The audio ports of a direction."""
@@ -92,6 +109,7 @@ class Link:
     input_node: int
     input_port: int
     state: str
+    is_async: bool = False
 
 
 @dataclass(eq=False)
@@ -127,10 +145,17 @@ def is_true(value):
 
 
 def read_json(path):
-    """The value of a JSON file."""
+    """The values of a file, one after the other."""
     try:
         with open(path, encoding="utf-8") as file:
-            return json.load(file)
+            text = file.read()
+        values, at, decoder = [], 0, json.JSONDecoder()
+        while True:
+            at = SPACES.match(text, at).end()
+            if at == len(text) and values:
+                return values
+            value, at = decoder.raw_decode(text, at)
+            values.append(value)
     except json.JSONDecodeError as error:
         raise Fault(f"{path}:{error.lineno}:{error.colno}: this is no JSON: {error.msg}") from None
     except UnicodeDecodeError as error:
@@ -139,6 +164,23 @@ def read_json(path):
         raise Fault(f"{path}: values stand too deep") from None
     except OSError as error:
         raise Fault(f"{path}: {error.strerror}") from None
+
+
+def last_objects(path):
+    """The objects of a dump, or of the lists of `pw-dump -m`: each as the last list has it that has
+    it, without those of which a list says that they are gone."""
+    found = {}
+    for objects in read_json(path):
+        if not isinstance(objects, list):
+            raise Fault(f"{path}: this is no list of objects, as pw-dump prints it")
+        for place, it in enumerate(objects):
+            if not isinstance(it, dict) or not isinstance(it.get("id"), int):
+                raise Fault(f"{path}: object {place} of the list has no \"id\", as pw-dump prints it")
+            if "type" not in it and it.get("info", 0) is None:
+                found.pop(it["id"], None)
+            else:
+                found[it["id"]] = it
+    return list(found.values())
 
 
 def part(path, holder, where, key, kind):
@@ -151,13 +193,8 @@ def part(path, holder, where, key, kind):
 
 def read_dump(path):
     """The dump of a file; every id that a port or a link names is in it."""
-    objects = read_json(path)
-    if not isinstance(objects, list):
-        raise Fault(f"{path}: this is no list of objects, as pw-dump prints it")
     dump = Dump(path, {}, {}, [], {}, {})
-    for place, it in enumerate(objects):
-        if not isinstance(it, dict) or not isinstance(it.get("id"), int):
-            raise Fault(f"{path}: object {place} of the list has no \"id\", as pw-dump prints it")
+    for it in last_objects(path):
         add(dump, it)
     for port in dump.ports.values():
         if port.node not in dump.nodes:
@@ -166,6 +203,8 @@ def read_dump(path):
         dump.nodes[port.node].ports.append(port)
     for link in dump.links:
         check_ends(dump, link)
+        for id in (link.output_node, link.input_node):
+            dump.nodes[id].has_async_link |= link.is_async
     return dump
 
 
@@ -194,7 +233,8 @@ def add(dump, it):
         dump.ports[id] = Port(id, node, direction in ("input", "in"), properties, params)
     else:
         ends = [part(dump.path, info, where, key, int) for key in LINK_ENDS]
-        dump.links.append(Link(id, *ends, str(info.get("state", ""))))
+        dump.links.append(Link(id, *ends, str(info.get("state", "")),
+                               is_true(properties.get("link.async"))))
 
 
 def settings(entries):

@@ -1,10 +1,10 @@
 """A graph of PipeWire as the engine can have it: steps, links, drivers, and what is left out."""
 from dataclasses import dataclass, field
 
-from bridge.fault import shown
+from bridge.fault import Fault, shown
 from bridge.joining import Sets, driven_groups
 from bridge.steps import make_steps, name_steps
-from bridge.wires import make_wires
+from bridge.wires import MOST_LINKS, Wire, make_wires
 
 MOST_NODES, MOST_CHANNELS, MOST_LOOPS, MOST_PRIORITY = 63, 8, 16, 1000000
 
@@ -25,24 +25,46 @@ class Engine:
         self.told.append(f"left out: {what}: {why}")
 
 
-def engine_of(dump, only=None):
-    """The graph of a dump; with `only`, a group, of only its nodes."""
+def engine_of(dump, only=None, apart=()):
+    """The graph of a dump; with `only`, a group, of only its nodes. `apart` names the groups whose
+    streams are nodes of their own."""
     engine = Engine()
     nodes = audio_nodes(dump, engine)
     if only is None:
         engine.groups = driven_groups(dump, nodes)
     else:
         engine.groups = [only]
-        nodes = of_group(engine, nodes, only)
-    engine.steps = limited(engine, make_steps(nodes))
+        nodes = without_async(engine, of_group(engine, nodes, only), only)
+    if not nodes:
+        raise Fault(f"{dump.path}: no node with audio ports, of which a script could be")
+    engine.steps = limited(engine, make_steps(nodes, apart))
     name_steps(engine.steps)
     drivers = [group.driver for group in engine.groups if group.driver]
     for step in engine.steps:
         step.drives = step.entry in drivers and bool(step.entry.audio(True))
     engine.wires = make_wires(dump, engine)
+    if only is not None:
+        wait_for_all(engine)
     number_loops(dump, engine)
     agree_on_channels(engine)
     return engine
+
+
+def wait_for_all(engine):
+    """Links to the driver from where a part ends that no link joins to it: in PipeWire each follower
+    has the driver among its targets, so it waits for them too."""
+    lead = leader(engine)
+    if lead is None:
+        return
+    live = active_steps(engine, lead)
+    for step in engine.steps:
+        is_end = not any(wire.source is step for wire in engine.wires)
+        if step.is_on and step not in live and is_end and len(engine.wires) < MOST_LINKS \
+                and any(wire.target is step for wire in engine.wires):
+            engine.wires.append(Wire(step, lead, []))
+            step.gives = True
+            engine.told.append(f"note: {step.said} is written with a link to {lead.said}, which "
+                               "waits for all its followers")
 
 
 def audio_nodes(dump, engine):
@@ -66,6 +88,15 @@ def of_group(engine, nodes, group):
         if node.id not in group.ids:
             engine.leave_out(node.said, "another driver's, of which the log tells nothing")
     return [node for node in nodes if node.id in group.ids]
+
+
+def without_async(engine, nodes, group):
+    """The nodes of a group that its driver waits for."""
+    for node in nodes:
+        if node.is_asynchronous and node is not group.driver:
+            engine.leave_out(node.said, "it is async: the driver does not wait for it, and what the "
+                             "log has of it may be of the cycle before")
+    return [node for node in nodes if node is group.driver or not node.is_asynchronous]
 
 
 def limited(engine, steps):
@@ -95,6 +126,8 @@ def agree_on_channels(engine):
         sets.join(wire.source, wire.target)
     for steps in sets.groups():
         lead = next((step for step in steps if step.drives), None)
+        if len(steps) == 1:
+            lead = None
         most = lead.width if lead else max(step.width for step in steps)
         for step in steps:
             step.channels = max(1, min(most, MOST_CHANNELS))

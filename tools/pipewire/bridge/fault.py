@@ -3,7 +3,11 @@ import sys
 
 
 class Fault(Exception):
-    """A sentence that names the place."""
+    """A sentence that names the place, and what was told before it."""
+
+    def __init__(self, sentence, told=()):
+        super().__init__(sentence)
+        self.told = list(told)
 
 
 def shown(text):
@@ -17,6 +21,15 @@ def note(tool, sentence):
     print(f"{tool}: {sentence}", file=sys.stderr)
 
 
+def store(path, text):
+    """Writes a file."""
+    try:
+        with open(path, "w", encoding="utf-8") as file:
+            file.write(text)
+    except OSError as error:
+        raise Fault(f"{path}: {error.strerror}") from None
+
+
 def run(tool, usage, work):
     """Runs a tool: its text goes out only when all of it is there."""
     words = sys.argv[1:]
@@ -28,7 +41,12 @@ def run(tool, usage, work):
         sys.stdout.flush()
         return 0
     except Fault as fault:
+        for sentence in fault.told:
+            note(tool, sentence)
         note(tool, fault)
     except BrokenPipeError:
         sys.stderr.close()
+    except OSError as error:
+        note(tool, f"standard output: {error.strerror}")
+        sys.stdout = None
     return 1

@@ -41,18 +41,23 @@ def driven_groups(dump, nodes):
     """The nodes that share a driver, group by group."""
     sets = Sets([node.id for node in nodes])
     for link in dump.links:
-        if link.output_node in sets.above and link.input_node in sets.above:
+        if link.state != "error" and link.output_node in sets.above and link.input_node in sets.above:
             sets.join(link.output_node, link.input_node)
     for key in ("node.group", "node.link-group"):
         first = {}
         for node in nodes:
-            name = node.properties.get(key)
-            if name:
-                sets.join(node.id, first.setdefault(str(name), node.id))
+            for name in node.groups(key):
+                sets.join(node.id, first.setdefault(name, node.id))
+    for node in nodes:
+        if node.driver_id in sets.above:
+            sets.join(node.id, node.driver_id)
     return [Group(driver_of(dump, ids), ids) for ids in sets.groups()]
 
 
 def driver_of(dump, ids):
-    """The node that drives a group, if one of it may."""
+    """The node that drives a group, if one of it may: where the daemon says it, as it says."""
+    said = {dump.nodes[id].driver_id for id in ids} & set(ids)
+    if len(said) == 1:
+        return dump.nodes[said.pop()]
     able = [dump.nodes[id] for id in ids if dump.nodes[id].may_drive]
     return min(able, key=lambda node: (-node.priority, node.serial), default=None)

@@ -23,8 +23,10 @@ class Picked:
         if self.place >= self.count:
             raise Fault(f"{where} has {self.count} parameters {self.param}: there is no number "
                         f"{self.place}" if found else f"{where} has no {self.param}")
-        self.text = format_text(f"{where}, {self.param}.{self.place}", self.param,
-                                found[self.place])
+        self.place_said, self.value = f"{where}, {self.param}.{self.place}", found[self.place]
+        self.title = what if not what.isdigit() else self.said
+        self.holder = holder
+        self.text = format_text(self.place_said, self.param, self.value)
 
     @property
     def file(self):

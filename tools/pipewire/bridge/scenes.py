@@ -22,6 +22,22 @@ context.modules = [
         capture.props = { node.name = low_pass media.class = Audio/Sink }
         playback.props = { node.name = low_pass.out target.object = sinkA } } } ]
 """
+ECHO = """
+context.properties = { log.level = 1 }
+context.spa-libs = { audio.convert.* = audioconvert/libspa-audioconvert
+    support.* = support/libspa-support }
+context.modules = [
+    { name = libpipewire-module-protocol-native }
+    { name = libpipewire-module-client-node }
+    { name = libpipewire-module-adapter }
+    { name = libpipewire-module-echo-cancel args = {
+        library.name = aec/libspa-aec-null
+        capture.props = { node.name = echo_capture target.object = sinkB stream.capture.sink = true }
+        source.props = { node.name = echo_source }
+        sink.props = { node.name = echo_sink }
+        playback.props = { node.name = echo_playback target.object = sinkA } } } ]
+"""
+SIX = "[ FL FR FC LFE RL RR ]"
 BOTH = DUMMY + sink("sinkA") + sink("sinkB")
 
 
@@ -114,7 +130,56 @@ def stop_now_and_then(child, seconds):
         os.killpg(child.pid, signal.SIGCONT)
 
 
+def mono_chain(daemon):
+    """A mono player through a mono loopback into a sink."""
+    daemon.loopback("lp", {"node.name": "lp.in", "media.class": "Audio/Sink"},
+                    {"node.name": "lp.out", "target.object": "sinkA"}, "[ MONO ]")
+    daemon.play("lp.in", "player")
+
+
+def surround(daemon):
+    """A player through a loopback of six channels into a sink of six."""
+    daemon.loopback("lp", {"node.name": "lp.in", "media.class": "Audio/Sink"},
+                    {"node.name": "lp.out", "target.object": "sinkA"}, SIX)
+    daemon.play("lp.in", "player")
+
+
+def late_chain(daemon):
+    """A player through two loopbacks; the first of them is stopped for 60 ms again and again."""
+    daemon.loopback("b", {"node.name": "b.in", "media.class": "Audio/Sink"},
+                    {"node.name": "b.out", "target.object": "sinkA"})
+    stopped = daemon.loopback("a", {"node.name": "a.in", "media.class": "Audio/Sink"},
+                              {"node.name": "a.out", "target.object": "b.in"})
+    daemon.play("a.in", "player")
+    return stopped
+
+
+def echo(daemon):
+    """A player through an echo canceller of four streams into a sink, and a recorder of it."""
+    path = daemon.folder / "echo.conf"
+    path.write_text(ECHO)
+    daemon.start("pipewire", "-c", str(path))
+    time.sleep(1)
+    daemon.play("echo_sink", "player")
+    daemon.play("sinkB", "other")
+    daemon.start("pw-cat", "-r", "--target", "echo_source", "--latency", "1024",
+                 "-P", json.dumps({"node.name": "recorder"}), "recorded.wav")
+    time.sleep(0.6)
+
+
+def forced(daemon):
+    """Two players and a loopback; the daemon is stopped for 60 ms again and again."""
+    daemon.loopback("lp", {"node.name": "lp.in", "media.class": "Audio/Sink"},
+                    {"node.name": "lp.out", "target.object": "sinkA"})
+    daemon.play("lp.in", "first")
+    daemon.play("sinkA", "second")
+    return daemon.children[0]
+
+
 SCENES = {"players": (BOTH, players), "loopbacks": (BOTH, loopbacks),
           "filter": (BOTH, filter_chain), "drivers": (BOTH, drivers),
           "async": (BOTH, asynchronous), "monitor": (BOTH, monitor), "dummy": (BOTH, dummy),
-          "late": (BOTH, late), "tap": (BOTH, tap)}
+          "late": (BOTH, late), "tap": (BOTH, tap),
+          "mono_chain": (BOTH, mono_chain), "late_chain": (BOTH, late_chain),
+          "surround": (DUMMY + sink("sinkA", SIX[2:-2]), surround),
+          "rate44": (BOTH, loopbacks, 44100), "echo": (BOTH, echo), "forced": (BOTH, forced)}

@@ -8,16 +8,21 @@ LOUDEST = 2000
 FULL_SCALE = 32767
 
 
-def rate_of(dump):
-    """The rate of the graph, as the settings have it."""
+def rate_of(dump, engine=None):
+    """The rate of the graph: of the Format of a node that drives, else as the settings have it."""
+    for group in engine.groups if engine else []:
+        for it in group.driver.params.get("Format", []) if group.driver else []:
+            rate = it.get("rate") if isinstance(it, dict) else None
+            if isinstance(rate, int) and 1 <= rate <= 384000:
+                return rate
     rate = setting(dump, "clock.force-rate", 0) or setting(dump, "clock.rate", 48000)
     return rate if 1 <= rate <= 384000 else 48000
 
 
-def quantum_of(dump, period=None):
+def quantum_of(dump, rate, period=None):
     """Frames a cycle: those of the log's period, or as the settings have them."""
     if period:
-        quantum = round(period * rate_of(dump) / 1e6)
+        quantum = round(period * rate / 1e6)
     else:
         quantum = setting(dump, "clock.force-quantum", 0) or setting(dump, "clock.quantum", 1024)
     return quantum if 1 <= quantum <= 8192 else 1024
@@ -32,8 +37,8 @@ def script_of(dump, engine, cycles=CYCLES, period=None):
     lines = [f"# {printable(dump.path)}: {counted(engine.steps, 'node')}, "
              f"{counted(engine.wires, 'link')}"]
     lines += ["# " + line for line in group_lines(engine)]
-    lines.append(f"quantum {quantum_of(dump, period)}")
-    rate = rate_of(dump)
+    rate = rate_of(dump, engine)
+    lines.append(f"quantum {quantum_of(dump, rate, period)}")
     sources = [step for step in engine.steps if step.kind == "square"]
     for step in engine.steps:
         lines += ["", *(f"# {remark}" for remark in remarks(step))]

@@ -1,19 +1,22 @@
-"""The nodes of a script: a step stands for one node of PipeWire, or for two streams of a client.
+"""The nodes of a script: a step stands for one node of PipeWire, or for the streams of a client.
 
-Two streams are one step where one takes samples and the other gives them, inside their client (a
-loopback, a filter chain: node.link-group); PipeWire has no link between them. By its ports a step
-is a source (outputs alone), a sink (inputs alone, or it drives), or stands between.
+The streams of a node.link-group are one step where some take samples and others give them, inside
+their client (a loopback, a filter chain, an echo canceller, a combined stream); PipeWire has no link
+between them. By its ports a step is a source (outputs alone), a sink (inputs alone, or it drives),
+or stands between.
 """
 from dataclasses import dataclass
+
+from bridge.dump import Node
 
 from bridge.names import fit_names
 
 
 @dataclass(eq=False)
 class Step:
-    """`entry` takes samples and `exit` gives them; as a rule they are one node."""
-    entry: object
-    exit: object
+    """The entries take samples and the exits give them; as a rule they are one node."""
+    entries: list[Node]
+    exits: list[Node]
     name: str = ""
     drives: bool = False
     gives: bool = False
@@ -22,7 +25,15 @@ class Step:
 
     @property
     def nodes(self):
-        return [self.entry] if self.entry is self.exit else [self.entry, self.exit]
+        return self.entries + [node for node in self.exits if node not in self.entries]
+
+    @property
+    def entry(self):
+        return self.entries[0]
+
+    @property
+    def exit(self):
+        return self.exits[0]
 
     @property
     def ids(self):
@@ -34,7 +45,8 @@ class Step:
 
     @property
     def is_on(self):
-        return all(node.state == "running" for node in self.nodes)
+        return all(any(node.state == "running" for node in side)
+                   for side in (self.entries, self.exits))
 
     @property
     def is_asynchronous(self):
@@ -48,8 +60,8 @@ class Step:
     @property
     def width(self):
         """How many audio channels the step has, in or out."""
-        return max(len(self.entry.audio(True)), len(self.exit.audio(False)),
-                   len(self.exit.audio(False, monitor=True)))
+        return max(len(ports) for node in self.nodes for ports in
+                   (node.audio(True), node.audio(False), node.audio(False, monitor=True)))
 
     @property
     def kind(self):
@@ -60,24 +72,34 @@ class Step:
         return "sink" if self.drives or is_end else "gain"
 
 
-def make_steps(nodes):
-    """A step for each node, and one for each two streams, in the order in which they came."""
-    by_group, steps, taken = {}, [], set()
-    for node in nodes:
-        if node.properties.get("node.link-group"):
-            by_group.setdefault(str(node.properties["node.link-group"]), []).append(node)
-    for members in by_group.values():
-        entries = [node for node in members if node.audio(True) and not node.audio(False)]
-        exits = [node for node in members if node.audio(False) and not node.audio(True)]
-        if len(members) == 2 and len(entries) == 1 and len(exits) == 1:
-            steps.append(Step(entries[0], exits[0]))
-            taken.update(node.id for node in members)
-    steps += [Step(node, node) for node in nodes if node.id not in taken]
+def make_steps(nodes, apart=()):
+    """A step for each node, and one for the streams of a group, in the order in which they came.
+    The streams of a group that is said to run apart are nodes of their own."""
+    steps, taken = [], set()
+    for name, (entries, exits) in stream_groups(nodes).items():
+        if name not in apart:
+            steps.append(Step(entries, exits))
+            taken.update(node.id for node in entries + exits)
+    steps += [Step([node], [node]) for node in nodes if node.id not in taken]
     return sorted(steps, key=lambda step: step.serial)
 
 
+def stream_groups(nodes):
+    """By its name each node.link-group whose streams take samples and give them: who does which."""
+    by_group, found = {}, {}
+    for node in nodes:
+        for name in node.groups("node.link-group")[:1]:
+            by_group.setdefault(name, []).append(node)
+    for name, members in by_group.items():
+        entries = [node for node in members if node.audio(True) and not node.audio(False)]
+        exits = [node for node in members if node.audio(False) and not node.audio(True)]
+        if entries and exits and len(entries) + len(exits) == len(members):
+            found[name] = entries, exits
+    return found
+
+
 def name_steps(steps):
-    """Names the steps after their nodes; two streams after the description that both have."""
+    """Names the steps after their nodes; streams after the description that all have."""
     names = fit_names([(step.ids[0], wanted_name(step)) for step in steps])
     for step in steps:
         step.name = names[step.ids[0]]
@@ -85,5 +107,5 @@ def name_steps(steps):
 
 def wanted_name(step):
     said = {str(node.properties.get("node.description", "")) for node in step.nodes}
-    return said.pop() or step.entry.name if len(step.nodes) == 2 and len(said) == 1 \
+    return said.pop() or step.entry.name if len(step.nodes) > 1 and len(said) == 1 \
         else step.entry.name

@@ -2,11 +2,11 @@
 KEPT = {
     "PipeWire:Interface:Client": ["application.name", "object.serial", "pipewire.sec.pid"],
     "PipeWire:Interface:Node": ["client.id", "media.class", "media.filename", "node.async",
-                                "node.description", "node.driver", "node.group", "node.link-group",
+                                "node.description", "node.driver", "node.driver-id", "node.group", "node.link-group",
                                 "node.name", "object.serial", "priority.driver"],
     "PipeWire:Interface:Port": ["audio.channel", "format.dsp", "node.id", "object.serial",
                                 "port.control", "port.monitor", "port.name"],
-    "PipeWire:Interface:Link": [],
+    "PipeWire:Interface:Link": ["link.async"],
 }
 FIELDS = ["direction", "state", "output-node-id", "output-port-id", "input-node-id",
           "input-port-id"]

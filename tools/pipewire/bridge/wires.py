@@ -24,6 +24,8 @@ class Wire:
     def links(self):
         """The links of PipeWire, in words."""
         ids = [str(id) for id in self.ids]
+        if not ids:
+            return "no link of PipeWire: the driver waits for each of its followers"
         return f"link {ids[0]}" if len(ids) == 1 else f"links {' '.join(ids)}"
 
 
@@ -48,7 +50,32 @@ def make_wires(dump, engine):
         else:
             wires.append(wire)
             wire.source.gives = True
-    return wires
+    return from_sources(engine, wires)
+
+
+def from_sources(engine, wires):
+    """The links in the order in which each meets a format that is known: from the sources on, and
+    of several the one whose source stands first. A link of which both sides are open would fix the
+    engine's own rate and channels, which those of a source that comes later need not meet."""
+    known = {step for step in engine.steps if step.kind == "square"}
+    depth, rest, ordered = depths(wires), list(wires), []
+    while rest:
+        near = [wire for wire in rest if wire.source in known or wire.target in known] or rest
+        first = min(near, key=lambda wire: (depth[wire.source], wire.ids[0]))
+        rest.remove(first)
+        ordered.append(first)
+        known |= {first.source, first.target}
+    return ordered
+
+
+def depths(wires):
+    """For each step of the links how many of them the longest way to it has; late ones do not count."""
+    depth = {step: 0 for wire in wires for step in (wire.source, wire.target)}
+    for _ in depth:
+        for wire in wires:
+            if not wire.is_late:
+                depth[wire.target] = max(depth[wire.target], depth[wire.source] + 1)
+    return depth
 
 
 def no_channel(dump, link):
@@ -62,8 +89,8 @@ def refusal(wire, wires):
     """Why the engine cannot have a link beside these, if it cannot."""
     if wire.source.drives:
         return "the driver ends the cycle, so its output comes after it"
-    if wire.of_monitor and wire.source.entry is not wire.source.exit:
-        return "a monitor of two streams that are written as one node"
+    if wire.of_monitor and len(wire.source.nodes) > 1:
+        return "a monitor of streams that are written as one node"
     if wire.source is wire.target:
         return "both ends are one node"
     if reaches(wires, wire.target, wire.source):

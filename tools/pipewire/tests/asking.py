@@ -32,6 +32,10 @@ class Asking:
         self.scratch = tempfile.TemporaryDirectory(prefix="pipegraph-test-")
         self.folder = Path(self.scratch.name)
         self.count = self.differences = 0
+        self.bin = self.folder / "bin"
+        self.bin.mkdir()
+        for name, path in self.programs.items():
+            (self.bin / name).symlink_to(path)
 
     def tool(self, name, *words):
         """A tool of this folder."""
@@ -44,7 +48,12 @@ class Asking:
     def ask(self, words, text=""):
         return Answer(subprocess.run(words, cwd=self.folder, input=text, stdout=subprocess.PIPE,
                                      stderr=subprocess.PIPE, text=True, timeout=60,
-                                     env={**os.environ, "LC_ALL": "C.UTF-8"}))
+                                     env=self.environment))
+
+    @property
+    def environment(self):
+        """The programs are on the path of the tools."""
+        return {**os.environ, "LC_ALL": "C.UTF-8", "PATH": f"{self.bin}:{os.environ['PATH']}"}
 
     def store(self, name, text):
         """A file of the folder."""

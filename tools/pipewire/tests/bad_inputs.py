@@ -36,7 +36,8 @@ def replaced(dump, place, key, value):
 DUMPS = [
     ("", "bad.json:1:1: this is no JSON: Expecting value"),
     ("[\n {", "bad.json:2:3: this is no JSON: Expecting property name enclosed in double quotes"),
-    ("[] []", "bad.json:1:4: this is no JSON: Extra data"),
+    ("[] x", "bad.json:1:4: this is no JSON: Expecting value"),
+    ("[] {}", "bad.json: this is no list of objects, as pw-dump prints it"),
     ("{}", "bad.json: this is no list of objects, as pw-dump prints it"),
     ("[7]", 'bad.json: object 0 of the list has no "id", as pw-dump prints it'),
     ('[{"type": "x"}]', 'bad.json: object 0 of the list has no "id", as pw-dump prints it'),
@@ -66,12 +67,14 @@ LOGS = [
     ("1\t2\tx\t4\t\n" + log([ROW, (33, 1, 2, 3)]), 'bad.log:1: column 3: "x" is no number'),
     (log([ROW, (33, 1, 2, 3)], [ROW, (33, 4711, 4712, 3)]).replace("4711", "4s", 1),
      'bad.log:2: column 6: "4s" is no number'),
-    (log([ROW, (33, 1, 2, 7)]), "bad.log:1: column 11: 7 is no status of a follower, 1 to 3"),
+    (log([ROW, (33, 1, 2, 7)]), "bad.log:1: column 11: 7 is no status of a follower, 1 to 4"),
     (log([ROW, (33, 1, 2, 3), (33, 1, 2, 3)]), "bad.log:1: column 13: node 33 stands twice"),
     (log([ROW, (33, 1, 2, 3)], [ROW, (44, 1, 2, 3)]),
      "bad.log:2: node 44 is not in small.json: both have to be recorded of the same graph"),
     (log([ROW]), "bad.log: no line has a follower"),
-    (log([ROW, (33, 1, 2, 1)]), "bad.log: no cycle of the log is whole"),
+    (log([ROW, (33, 1, 2, 1)]), "bad.log:1: left out: source was not awake\n"
+     "TOOL: covers: cycles 0 of 1, followers 1 of 1, driver's order known in 0 of 0\n"
+     "TOOL: bad.log: no cycle of the log is whole"),
     ("1\t2\t3\t4\t\u00e9\n", "bad.log: this is no log of pw-profiler: byte 8 is no ASCII"),
 ]
 
@@ -101,6 +104,7 @@ FORMATS = [
 
 
 def refused(asking, what, answer, tool, sentence):
+    sentence = sentence.replace("TOOL", tool)
     asking.same(what, (1, "", f"{tool}: {sentence}\n"), answer.whole())
 
 
@@ -128,9 +132,14 @@ def files_that_are_not_there(asking):
             ("graph", ["no.json"], "no.json: No such file or directory"),
             ("trace", ["small.json", "no.log"], "no.log: No such file or directory"),
             ("trace", ["small.json"],
-             "the words are DUMP.json PROFILER.log, with --late or without it"),
+             "the words are DUMP.json PROFILER.log, with --late, --driver ID, --script SCRIPT or "
+             "without them"),
             ("graph", ["small.json", "--late"], "the words are DUMP.json, or DUMP.json "
-             "PROFILER.log with --late or without it"),
+             "PROFILER.log with --late, --driver ID or without them"),
+            ("why", ["small.json"], "the words are DUMP.json PROFILER.log, with --driver ID, "
+             "--perfetto OUT.json or --picture LINE or without them"),
+            ("trace", ["small.json", "no.log", "--driver", "x"], "the words are DUMP.json "
+             "PROFILER.log, with --late, --driver ID, --script SCRIPT or without them"),
             ("formats", ["small.json"], "the words are DUMP.json NODE, or DUMP.json NODE NODE")]:
         refused(asking, f"{tool} {words}", asking.tool(tool, *words), tool, sentence)
 

@@ -59,8 +59,8 @@ def an_async_node_may_close_a_loop(asking):
     sink = dump.node("sink", inputs=1, node_driver=True, priority_driver=7)
     one = dump.node("one", inputs=1, outputs=1)
     two = dump.node("two", inputs=1, outputs=1, node_async=True)
-    dump.link(one, two)
-    dump.link(two, one)
+    dump.link(one, two, link_async=True)
+    dump.link(two, one, link_async=True)
     dump.link(one, sink)
     made = asking.tool("graph", asking.store("async.json", dump.text()))
     asking.same("async", ["quantum 1024", "sink sink sink.wav", "gain one 256", "gain two 256",

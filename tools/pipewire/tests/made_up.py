@@ -27,11 +27,12 @@ class MadeUp:
                  for direction, count in (("input", inputs), ("output", outputs))]
         return id, ports[0], ports[1]
 
-    def link(self, source, target, at=0, state="active"):
+    def link(self, source, target, at=0, state="active", **properties):
         """A link of a channel."""
+        said = {key.replace("_", "."): value for key, value in properties.items()}
         return self.add("Link", {"output-node-id": source[0], "output-port-id": source[2][at],
                                  "input-node-id": target[0], "input-port-id": target[1][at],
-                                 "state": state})
+                                 "state": state, "props": said})
 
     def text(self):
         return json.dumps(self.objects)

@@ -23,6 +23,12 @@ def chain(asking, rows, *late):
     return events, verdict, trace.errors.splitlines()
 
 
+def covers(written, logged):
+    """The line of what a verdict covers: both followers, and each driver's order."""
+    return [f"trace: covers: cycles {written} of {logged}, followers 2 of 2, driver's order known in "
+            f"{written} of {written}"]
+
+
 LEGAL = ["begin", "start first", "finish first", "start last", "finish last", "start sink",
          "finish sink", "end"]
 
@@ -68,13 +74,13 @@ def unfinished_cycles_are_left_out(asking):
     events, verdict, errors = chain(asking, rows)
     asking.same("unfinished", (LEGAL * 2, "legal\n"), (events, verdict))
     asking.same("unfinished: told", told + ["trace: chain.log:3: left out: last was not awake"]
-                + again, errors)
+                + again + covers(2, 3), errors)
     events, verdict, errors = chain(asking, rows, "--late")
     asking.same("unfinished --late", (LEGAL + LEGAL[:3] + ["tick last", "start sink", "finish sink",
                                                            "end"] + LEGAL, "illegal 13\n"),
                 (events, verdict))
     asking.same("unfinished --late: told", told + ["trace: chain.log:3: cycle 1: last was not "
-                                                   "awake"] + again, errors)
+                                                   "awake"] + again + covers(3, 3), errors)
 
 
 def work_of_a_cycle_before_is_told(asking):
@@ -83,11 +89,12 @@ def work_of_a_cycle_before_is_told(asking):
             [(PERIOD, 28, 0, PERIOD), ("first", 4, 8, 3), ("last", 0, 9, 3)]]
     events, verdict, errors = chain(asking, rows)
     why = "last was at work since before the cycle"
-    asking.same("before", (LEGAL, "legal\n", [f"trace: chain.log:2: left out: {why}"]),
+    asking.same("before", (LEGAL, "legal\n", [f"trace: chain.log:2: left out: {why}"] + covers(1, 2)),
                 (events, verdict, errors))
     events, verdict, errors = chain(asking, rows, "--late")
     asking.same("before --late", (["begin", "start last", "start first", "finish first"],
-                                  "illegal 10\n", [f"trace: chain.log:2: cycle 1: {why}"]),
+                                  "illegal 10\n", [f"trace: chain.log:2: cycle 1: {why}"]
+                                  + covers(2, 2)),
                 (events[8:12], verdict, errors))
 
 

@@ -3,7 +3,6 @@
 They are in blocks that are indented by four spaces: a line that begins with "$ " is run, in a
 folder that has tools/ and demo/, and the lines below it are all that it prints.
 """
-import os
 import subprocess
 
 from tests.asking import TOP
@@ -27,15 +26,10 @@ def commands(text):
 
 
 def commands_print_what_they_say(asking):
-    programs = asking.folder / "programs"
-    programs.mkdir()
-    for name, path in asking.programs.items():
-        (programs / name).symlink_to(path)
     for name in ("tools", "demo"):
         (asking.folder / name).symlink_to(TOP / name)
-    environment = {**os.environ, "PATH": f"{programs}:{os.environ['PATH']}", "LC_ALL": "C.UTF-8"}
     for number, command, lines in commands(PAGE.read_text()):
-        done = subprocess.run(["bash", "-c", command], cwd=asking.folder, env=environment,
+        done = subprocess.run(["bash", "-c", command], cwd=asking.folder, env=asking.environment,
                               stdin=subprocess.DEVNULL, stdout=subprocess.PIPE,
                               stderr=subprocess.STDOUT, text=True, timeout=60)
         asking.same(f"docs/PIPEWIRE.md:{number}: {command}", lines, done.stdout.splitlines())

@@ -5,13 +5,15 @@ Each expected line was worked out by hand from the columns of a log or from `pw-
 from tests.asking import commands, recording
 
 SCENES = ["players", "loopbacks", "filter", "drivers", "async", "monitor", "dummy", "late",
-          "tap", "leftover", "busy"]
+          "tap", "leftover", "busy", "mono_chain", "surround", "rate44", "echo", "late_chain",
+          "forced"]
 
 # Cycles: the lines of the log without those in which a status of a follower is not 3, and without
 # line 17 of leftover.log, in which the recorder's wake is 0.
 CYCLES = {"players": 100, "loopbacks": 100, "filter": 100, "drivers": 100, "async": 100,
           "monitor": 100, "dummy": 100, "late": 84, "tap": 86, "leftover": 37,
-          "busy": 82}
+          "busy": 82, "mono_chain": 100, "surround": 100, "rate44": 100, "echo": 100,
+          "late_chain": 85, "forced": 83}
 
 # players.json: pw-link -l shows each player's two ports on sinkA's two.
 PLAYERS = """quantum 1024
@@ -33,10 +35,10 @@ cycles 100
 """
 
 # loopbacks.json: through > first > second > sinkA < beside.
-LOOPBACKS = """link second.out sinka.in
-link first.out second.in
-link through.out first.in
+LOOPBACKS = """link through.out first.in
 link beside.out sinka.in
+link first.out second.in
+link second.out sinka.in
 """
 
 # loopbacks.log, line 1, as awake and finish: 54 through 42 64, 60 beside 120 137,
@@ -160,6 +162,49 @@ def late_cycles_are_illegal(asking):
                     asking.program("pipegraph", "check", script, trace).text)
 
 
+def culprits_are_named(asking):
+    """Of a chain that waited the one that was triggered and never awake is named; a verdict says
+    what it covers. In late_chain.log these lines have status 1 of node 44, `a.in`, and no other."""
+    dump, log = recording("late_chain")
+    done = asking.tool("why", dump, log)
+    bad = [line for line in done.text.splitlines() if line.startswith(f"{log}:")]
+    asking.same("late_chain: why", [
+        f'{log}:{line}: "a.in" (id 44): triggered at {at}, never awake; waited: "a.out" (id 43), '
+        '"b.in" (id 33), "b.out" (id 32), "sinkA" (id 16)'
+        for line, at in [(22, 87), (24, 93), (26, 112), (49, 98), (51, 89), (75, 79), (77, 67)]],
+        bad)
+    asking.same("late_chain: the table's line of a.in",
+                ['"a.in" (id 44)\t85\t7\t0\t0\t17433\t4278'],
+                [line for line in done.text.splitlines() if line.startswith('"a.in"')])
+    asking.same("late_chain: covers",
+                "covers: cycles 85 of 92, followers 5 of 5, driver's order known in 83 of 85",
+                asking.tool("trace", dump, log).errors.splitlines()[-1].removeprefix("trace: "))
+
+
+# Lines of a log in which a status is 1 or 2, without those of which the next line is the same cycle;
+# of these the ones that the next line's first column is under half a period after are the driver's,
+# and a follower's are those whose second column is three quarters of a period or more and whose
+# first is more than half of one. leftover: line 16, 106 after. forced: lines 21 23 47 49 72 74 98;
+# 50 began 37 after the line before it, and 100 150. busy: a follower's are 78 98 116 120; the
+# statuses of 76 79 82 118 122 are of an earlier time, and 114 began 33 after 112.
+XRUNS = {"late": (8, 8, 0, 0), "tap": (7, 7, 0, 0), "leftover": (1, 0, 1, 0),
+         "forced": (9, 0, 7, 2), "busy": (24, 4, 14, 6), "players": (0, 0, 0, 0)}
+
+
+def xruns_are_summed(asking):
+    """Whose each xrun was, and where check and the statuses differ: in line 17 of leftover.log the
+    recorder is at the work of the cycle before, with status 3."""
+    for scene, (all, followers, driver, undecided) in XRUNS.items():
+        dump, log = recording(scene)
+        lines = asking.tool("why", dump, log).text.splitlines()
+        asking.same(f"{scene}: xruns", f"xruns: {all}, by followers {followers}, by the driver "
+                    f"{driver}, not decided {undecided}",
+                    next((line for line in lines if line.startswith("xruns: ")), None))
+        differs = [f"{log}:17: differs: check does not allow it, and no follower was late by its "
+                   "status"] if scene == "leftover" else []
+        asking.same(f"{scene}: check and statuses", differs, lines[lines.index("verdict: legal") + 2:])
+
+
 def left_out_by_name(asking):
     """What is left out is reported by name."""
     dump, log = recording("monitor")
@@ -167,12 +212,12 @@ def left_out_by_name(asking):
     asking.same("monitor: graph tells", [
         'graph: left out: "Dummy-Driver" (id 15): it has no audio port',
         'graph: left out: links 48 49 from "sinkA" (id 16) to "copy.in" (id 39) and "copy.out" '
-        '(id 38): the driver ends the cycle, so its output comes after it'], told.splitlines())
+        '(id 38): the driver ends the cycle, so its output comes after it',
+        'graph: note: "sinkB" (id 17) is written with a link to "sinkA" (id 16), which waits for '
+        'all its followers'], told.splitlines())
     asking.same("monitor: trace tells", [
-        'trace: left out: the events of "sinkB" (id 17): no links of the script join it to '
-        '"sinkA" (id 16)',
-        'trace: left out: the events of "copy.in" (id 39) and "copy.out" (id 38): no links of the '
-        'script join it to "sinkA" (id 16)'], asking.tool("trace", dump, log).errors.splitlines())
+        "trace: covers: cycles 100 of 100, followers 4 of 4, driver's order known in 100 of 100"],
+        asking.tool("trace", dump, log).errors.splitlines())
     dump, log = recording("late")
     told = asking.tool("trace", dump, log).errors.splitlines()
     asking.same("late: trace tells", [
@@ -185,8 +230,9 @@ def left_out_by_name(asking):
         f"trace: {log}:15: left out: written when the next cycle began; the next line is of the "
         "same cycle",
         f"trace: {log}:16: left out: recorder had not finished",
-        f"trace: {log}:17: left out: recorder was at work since before the cycle"], told)
+        f"trace: {log}:17: left out: recorder was at work since before the cycle",
+        "trace: covers: cycles 37 of 39, followers 2 of 2, driver's order known in 37 of 37"], told)
 
 
 TESTS = [scripts_run, scripts_say, plain_cycles_are_legal, events_say, late_cycles_are_illegal,
-         left_out_by_name]
+         culprits_are_named, xruns_are_summed, left_out_by_name]
