@@ -37,9 +37,7 @@ const ROWS: [CellRow; 3] = [
 fn script_of(alloc: Global, cells: u32) -> Result<String, Fail> {
     let mut text = String::from_str(alloc, "quantum 2\nsink o o.wav\ndriver o 1\n")?;
     for number in 0..cells {
-        let square = format!(in alloc;
-            "square s{number} 48000 1 4 5\nlink s{number}.out o.in\n"
-        )?;
+        let square = format!(in alloc; "square s{number} 48000 1 4 5\nlink s{number}.out o.in\n")?;
         text.push_str(square.as_str())?;
     }
     text.push_str("cycles 2\n")?;
