@@ -5,9 +5,11 @@ import re
 import shutil
 import subprocess
 import tempfile
+from functools import partial
 from pathlib import Path
-from typing import Union
+from typing import Callable, Union
 
+from calls import Calls, can_count
 from notation import shown, text, told
 from rows import ANY, PROGRAMS, Case, Content, Step, bytes_of
 
@@ -115,6 +117,18 @@ def ways_of(case: Case) -> list:
     return WAYS if any(step.is_plain_run for step in case.steps) else [[]]
 
 
+def ask_step(step: Step, run: Callable) -> list:
+    """Asks a command line, counts its threads where the case says how many, and answers what differs."""
+    if step.threads is None or not can_count():
+        return of_step(step, run(env=None))
+    with tempfile.TemporaryDirectory(prefix="pipegraph-calls-") as name:
+        calls = Calls(Path(name))
+        found = of_step(step, run(env=calls.environment))
+        if calls.threads() != step.threads:
+            found += [f"    threads: wanted {step.threads}, got {calls.threads()}"]
+        return found
+
+
 def in_folder(programs: dict, case: Case, way: list, folder: bytes) -> list:
     """Asks a case in an empty folder."""
     found = []
@@ -123,11 +137,9 @@ def in_folder(programs: dict, case: Case, way: list, folder: bytes) -> list:
             store(os.path.join(folder, name), content)
     for step in case.steps:
         more = [word.encode() for word in way] if step.is_plain_run else []
-        ended = subprocess.run(
-            step.words + more, executable=programs[step.program], cwd=folder,
-            input=bytes_of(case.given.get(b"-", b"")), capture_output=True, timeout=SECONDS,
-            check=False)
-        found += of_step(step, ended)
+        found += ask_step(step, partial(
+            subprocess.run, step.words + more, executable=programs[step.program], cwd=folder,
+            input=bytes_of(case.given.get(b"-", b"")), capture_output=True, timeout=SECONDS, check=False))
     return found + of_files(case, folder)
 
 

@@ -5,6 +5,7 @@ from typing import Callable
 
 import notation
 import suite
+from calls import can_count
 
 CASES = r"""from hand
 text end
@@ -78,6 +79,9 @@ OF_CASES = [
     ("no `from`", "from hand", "# hand", "a file begins with `from`"),
     ("a word that begins no line", "  none o.pod", "  nowhere o.pod", "not read:   nowhere o.pod"),
     ("a POD that is none", "pod int 7", "pod int seven", "not read:   given f.pod"),
+    *([("a thread", "  > int 7\n", "  > int 7\n  threads 1\n", "threads: wanted 1, got")] if can_count() else []),
+    ("a count of threads of a run in four ways", "wrote o 2\n", "wrote o 2\n  threads 0\n",
+     "a run that is asked in four ways"),
     ("a POD that goes on", "pod int 7", "pod int 7 / int 7", "the POD ends before its text"),
     ("a line that comes too late", "  > int 7\n", "  > int 7\n  given g = nothing\n", "it comes before >"),
     ("an unknown program", "$ pipegraph dump", "$ pipegraf dump", "begins with the name of a program"),

@@ -8,7 +8,7 @@ from notation import made, text, unescaped
 # Each program, and where it is in the repository: built by the gate, or a script.
 PROGRAMS = {"pipegraph": "crates/pw_main/out/pw_main", "pipegraph-pods": "crates/pw_pods/out/pw_pods",
             "pipegraph-pictures": "tools/pictures/pipegraph-pictures"}
-ORDER = ["case", "given", "$", ">", "!", "status", "left", "none"]
+ORDER = ["case", "given", "$", ">", "!", "status", "threads", "left", "none"]
 ANY = "..."  # a line that stands for one line or more
 SPECIAL = re.compile(r"folder|zeros \d+")  # what is made on the disk only
 
@@ -31,6 +31,7 @@ class Step:
         self.out: Union[bytes, list] = []
         self.errors: list = []
         self.status = 0
+        self.threads: Optional[int] = None  # None: they are not counted
         self.is_plain_run = len(self.words) == 3 and self.words[:2] == [b"pipegraph", b"run"]
 
     def is_loose(self) -> bool:
@@ -146,6 +147,10 @@ class Reader:
             case.steps[-1].errors += self.text(rest)
         elif sign == "status":
             case.steps[-1].status = int(rest)
+        elif sign == "threads":
+            if case.steps[-1].is_plain_run:
+                raise Wrong("a run that is asked in four ways starts other threads in each")
+            case.steps[-1].threads = int(rest)
         elif sign == "left":
             self.file(rest, case.left)
         else:
