@@ -28,7 +28,8 @@ class Judgement:
 
 @dataclass
 class BadCycle:
-    """A cycle in which a follower that was triggered had not finished, by its line of the log."""
+    """A cycle in which a follower that was triggered had not finished, or the driver had not when the
+    next one began, by its line of the log."""
     line: int
     unfinished: dict[int, Turn]
     waited: list[int]
@@ -78,6 +79,7 @@ class Blaming:
         self.driver, self.process, self.passed = driver, process, {driver, *passed}
         self.found = Blame()
         self.held: Optional[Row] = None
+        self.was_open = False
         self.last: Optional[Row] = None
         self.first_line: dict[int, int] = {}
         self.last_line: dict[int, int] = {}
@@ -87,6 +89,7 @@ class Blaming:
         if not row.repeats(self.last) and not row.counts_from_before:
             self.judge(row)
             self.held = row
+            self.was_open = self.last is not None and self.last.counts_from_before
         self.last = row
 
     def end(self):
@@ -110,7 +113,7 @@ class Blaming:
                 count_turn(self.found.counts.setdefault(id, Count()), turn)
         unfinished = {id: turn for id, turn in row.turns.items()
                       if id not in self.passed and turn.status in (TRIGGERED, AWAKE)}
-        if unfinished:
+        if unfinished or self.was_open:
             self.found.bad.append(BadCycle(row.line, unfinished, self.waiting(row),
                                            judgement_of(row, after, unfinished, self.process)))
 
@@ -150,6 +153,9 @@ def judgement_of(row, after, unfinished, process):
         return Judgement(UNDECIDED, reason=f"the statuses are of {seen} of {row.period}")
     if after and after.between < ENOUGH * row.period:
         return Judgement(UNDECIDED, reason=f"the cycle had {after.between} of {row.period}")
+    if not unfinished:
+        return Judgement(UNDECIDED, reason="the driver had not finished when the next cycle began, and "
+                         "no follower was at work")
     late = [id for id, turn in unfinished.items() if 2 * (seen - turn.signal) > row.period]
     late = without_held_up(late, unfinished, process)
     if not late:

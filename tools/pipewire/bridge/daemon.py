@@ -127,11 +127,11 @@ class Daemon:
             time.sleep(0.05)
         raise Fault(f"waited {seconds} s for {what}, in vain")
 
-    def play(self, target, name="player", latency="1024"):
+    def play(self, target, name="player", latency="1024", wait=0.4):
         """A player of the tone."""
         child = self.start("pw-cat", "-p", "--target", target, "--latency", latency,
                            "-P", json.dumps({"node.name": name}), "tone.wav")
-        time.sleep(0.4)
+        time.sleep(wait)
         return child
 
     def loopback(self, name, capture, playback, channels="[ FL FR ]"):

@@ -43,7 +43,7 @@ def history_of(dump, log, late):
     `late` written as it was, with a tick that names who had not finished."""
     group = logged_group(dump, log)
     engine = engine_of(dump, group, apart_groups(dump, log.rows))
-    history = History(engine, log.rows[0].period, told=list(log.told))
+    history = History(engine, log.rows[0].period, lines=log.passed, told=list(log.told))
     lead = leader(engine)
     active = active_steps(engine, lead)
     tell_inactive(history, log, active, group.driver)
@@ -52,7 +52,7 @@ def history_of(dump, log, late):
         cycles.add(f"{log.path}:{row.line}", row)
     tell_coverage(history, cycles, group.driver)
     if not history.cycles:
-        raise Fault(f"{log.path}: no cycle of the log is whole", history.told)
+        raise Fault(f"{log.path}: no cycle of the log is whole", engine.told + history.told)
     if not history.followers:
         raise Fault(f"{log.path}: no follower of the log is in the script", history.told)
     return history
@@ -91,9 +91,6 @@ def logged_group(dump, log):
     for id in log.ids:
         if id in ids:
             continue
-        if id not in dump.nodes:
-            raise Fault(f"{first_place(log, id)}: node {id} is not in {dump.path}: both have to be "
-                        "recorded of the same graph")
         group = next(group for group in groups if id in group.ids)
         if driver and group.driver:
             raise Fault(f"{first_place(log, id)}: node {id} is driven by {group.driver.said}, and "

@@ -9,11 +9,13 @@ from bridge.profiler_json import Points, is_json
 
 @dataclass
 class Log:
-    """The cycles of a log and what is told of it; the driver's id, where the log has it."""
+    """The cycles of a log and what is told of it; the driver's id, where the log has it; how many
+    lines were passed over."""
     path: str
     rows: List[Row] = field(default_factory=list)
     told: List[str] = field(default_factory=list)
     driver: Optional[int] = None
+    passed: int = 0
 
     @property
     def ids(self):
@@ -70,3 +72,29 @@ def add_row(log, number, at, line):
         byte = at + next(k for k, it in enumerate(line) if it > 127)
         raise Fault(f"{log.path}: this is no log of pw-profiler: byte {byte} is no ASCII")
     log.rows.append(read_row(f"{log.path}:{number}", number, line))
+
+
+def fitting(log, dump):
+    """The log without lines that name a node which is not in the dump, since that joined later or
+    left before: fewer than those that are kept, else both are not of one graph."""
+    strange = [row for row in log.rows if not row.turns.keys() <= dump.nodes.keys()]
+    if not strange:
+        return log
+    first = strange[0]
+    id = next(id for id in first.turns if id not in dump.nodes)
+    if 2 * len(strange) >= len(log.rows):
+        raise Fault(f"{log.path}:{first.line}: node {id} is not in {dump.path}: both have to be "
+                    "recorded of the same graph")
+    kept = [row for row in log.rows if row.turns.keys() <= dump.nodes.keys()]
+    told = (f"{log.path}:{first.line}: left out: node {id} is not in {dump.path}, so this line and "
+            f"{len(strange) - 1} more are of another graph")
+    return Log(log.path, kept, [*log.told, told], log.driver, len(strange))
+
+
+def spans(log):
+    """The first and the last line that has each follower."""
+    found = {}
+    for row in log.rows:
+        for id in row.turns:
+            found[id] = found.get(id, (row.line, 0))[0], row.line
+    return found

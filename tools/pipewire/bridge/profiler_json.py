@@ -31,13 +31,17 @@ class Points:
 
     def add(self, place, number, line: bytes):
         """Takes in a line."""
-        text = line.decode("utf-8", "backslashreplace").strip().lstrip("[").rstrip(",]").strip()
+        whole_line = line.decode("utf-8", "backslashreplace")
+        text = whole_line.strip().lstrip("[").rstrip(",]").strip()
         if text in ("", "{ }", "{}"):
             return
         try:
             it = json.loads(text)
-        except ValueError as error:
-            raise Fault(f"{place}: this is no object of pw-profiler -J: {error}") from None
+        except json.JSONDecodeError as error:
+            column = whole_line.index(text) + error.colno
+            raise Fault(f"{place}:{column}: this is no object of pw-profiler -J: {error.msg}") from None
+        except (ValueError, RecursionError):
+            raise Fault(f"{place}: this is no object of pw-profiler -J") from None
         if not isinstance(it, dict):
             raise Fault(f"{place}: this is no object of pw-profiler -J")
         kind = it.get("type")

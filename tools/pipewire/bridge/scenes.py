@@ -37,6 +37,21 @@ context.modules = [
         sink.props = { node.name = echo_sink }
         playback.props = { node.name = echo_playback target.object = sinkA } } } ]
 """
+COMBINE = """
+context.properties = { log.level = 1 }
+context.spa-libs = { audio.convert.* = audioconvert/libspa-audioconvert
+    support.* = support/libspa-support }
+context.modules = [
+    { name = libpipewire-module-protocol-native }
+    { name = libpipewire-module-client-node }
+    { name = libpipewire-module-adapter }
+    { name = libpipewire-module-combine-stream args = {
+        combine.mode = sink node.name = both node.description = "Both sinks"
+        combine.props = { audio.position = [ FL FR ] }
+        stream.rules = [ { matches = [ { media.class = "Audio/Sink" node.name = "~sink.*" } ]
+            actions = { create-stream = { combine.audio.position = [ FL FR ]
+                audio.position = [ FL FR ] } } } ] } } ]
+"""
 SIX = "[ FL FR FC LFE RL RR ]"
 BOTH = DUMMY + sink("sinkA") + sink("sinkB")
 
@@ -176,10 +191,72 @@ def forced(daemon):
     return daemon.children[0]
 
 
+def monitor_chain(daemon):
+    """Two loopbacks in a row from the monitor of the sink that drives to another sink."""
+    daemon.play("sinkA", "player")
+    daemon.loopback("last", {"node.name": "last.in", "media.class": "Audio/Sink"},
+                    {"node.name": "last.out", "target.object": "sinkB"})
+    daemon.loopback("copy", {"node.name": "copy.in", "stream.capture.sink": True,
+                             "target.object": "sinkA"},
+                    {"node.name": "copy.out", "target.object": "last.in"})
+
+
+def combine(daemon):
+    """A player through a combined stream of three streams into two sinks."""
+    path = daemon.folder / "combine.conf"
+    path.write_text(COMBINE)
+    daemon.start("pipewire", "-c", str(path))
+    time.sleep(1.5)
+    daemon.play("both", "player")
+
+
+def feedback(daemon):
+    """Two loopbacks, each of which takes what the other gives, and a player into one of them."""
+    for name in ("one", "two"):
+        daemon.loopback(name, {"node.name": f"{name}.in", "media.class": "Audio/Sink"},
+                        {"node.name": f"{name}.out", "target.object": "sinkA"})
+    daemon.play("one.in", "player")
+    for one, two in (("one", "two"), ("two", "one")):
+        for side in ("FL", "FR"):
+            daemon.ask("pw-link", f"{one}.out:output_{side}", f"{two}.in:playback_{side}")
+    time.sleep(0.4)
+
+
+def join(daemon):
+    """A player, and a second one that joins in the middle; the dump is of before."""
+    daemon.play("sinkA", "first")
+
+    def meanwhile(seconds):
+        time.sleep(seconds / 2)
+        daemon.play("sinkA", "joining")
+    return meanwhile
+
+
+def leave(daemon):
+    """Two players, of which one leaves in the middle; the dump is of before."""
+    daemon.play("sinkA", "first")
+    leaving = daemon.play("sinkA", "leaving")
+
+    def meanwhile(seconds):
+        time.sleep(seconds / 2)
+        leaving.terminate()
+    return meanwhile
+
+
+def many(daemon):
+    """Seventy players, six more than pw-profiler has columns for."""
+    for at in range(70):
+        daemon.play("sinkA", f"player{at}", wait=0.1)
+    time.sleep(2)
+
+
 SCENES = {"players": (BOTH, players), "loopbacks": (BOTH, loopbacks),
           "filter": (BOTH, filter_chain), "drivers": (BOTH, drivers),
           "async": (BOTH, asynchronous), "monitor": (BOTH, monitor), "dummy": (BOTH, dummy),
           "late": (BOTH, late), "tap": (BOTH, tap),
           "mono_chain": (BOTH, mono_chain), "late_chain": (BOTH, late_chain),
           "surround": (DUMMY + sink("sinkA", SIX[2:-2]), surround),
-          "rate44": (BOTH, loopbacks, 44100), "echo": (BOTH, echo), "forced": (BOTH, forced)}
+          "rate44": (BOTH, loopbacks, 44100), "echo": (BOTH, echo), "forced": (BOTH, forced),
+          "monitor_chain": (BOTH, monitor_chain), "combine": (BOTH, combine),
+          "feedback": (BOTH, feedback), "join": (BOTH, join), "leave": (BOTH, leave),
+          "many": (BOTH, many)}

@@ -2,18 +2,21 @@
 
 Each expected line was worked out by hand from the columns of a log or from `pw-link -l`.
 """
+import json
+
 from tests.asking import commands, recording
 
 SCENES = ["players", "loopbacks", "filter", "drivers", "async", "monitor", "dummy", "late",
           "tap", "leftover", "busy", "mono_chain", "surround", "rate44", "echo", "late_chain",
-          "forced"]
+          "forced", "combine", "monitor_chain", "v14_late_chain"]
 
 # Cycles: the lines of the log without those in which a status of a follower is not 3, and without
 # line 17 of leftover.log, in which the recorder's wake is 0.
 CYCLES = {"players": 100, "loopbacks": 100, "filter": 100, "drivers": 100, "async": 100,
           "monitor": 100, "dummy": 100, "late": 84, "tap": 86, "leftover": 37,
           "busy": 82, "mono_chain": 100, "surround": 100, "rate44": 100, "echo": 100,
-          "late_chain": 85, "forced": 83}
+          "late_chain": 85, "forced": 83, "combine": 100, "monitor_chain": 100,
+          "v14_late_chain": 84}
 
 # players.json: pw-link -l shows each player's two ports on sinkA's two.
 PLAYERS = """quantum 1024
@@ -205,6 +208,54 @@ def xruns_are_summed(asking):
         asking.same(f"{scene}: check and statuses", differs, lines[lines.index("verdict: legal") + 2:])
 
 
+def graphs_that_change(asking):
+    """join: node 39 is in lines 62 to 100 and not in the dump. leave: node 38 is in lines 1 to 59.
+    many: a script has 63 nodes, of which one is the driver; the log has 64 followers of 70. feedback: in
+    each of the 50 cycles the driver had not finished when the next one began, and the
+    loopbacks, of which each waits for the other, are in no line."""
+    for scene, lines in [
+            ("join", ["{log}:62: left out: node 39 is not in {dump}, so this line and 38 more are of "
+                      "another graph", "verdict: legal", "covers: cycles 61 of 100, followers 1 of 1, "
+                      "driver's order known in 61 of 61"]),
+            ("leave", ["verdict: legal", "covers: cycles 59 of 100, followers 2 of 2, driver's order "
+                       "known in 58 of 59", '{log}: "leaving" (id 38) is in no line but 1 to 59']),
+            ("many", ["xruns: 0, by followers 0, by the driver 0, not decided 0", "verdict: legal",
+                      "covers: cycles 20 of 20, followers 62 of 64, driver's order known in 20 of 20"]),
+            ("feedback", ['left out: links 62 63 from "two.in" (id 44) and "two.out" (id 43) to "one.in" '
+                          '(id 33) and "one.out" (id 32): it closes a loop, and none of the nodes is '
+                          "async", "covers: cycles 0 of 50, followers 1 of 1, driver's order known in 0 "
+                          "of 0", "no verdict: {log}: no cycle of the log is whole"])]:
+        dump, log = recording(scene)
+        done = asking.tool("why", dump, log)
+        asking.same(f"{scene}: why", (0, [line.format(dump=dump, log=log) for line in lines]),
+                    (done.status, done.text.splitlines()[-3:]))
+        bad = sum(": not decided by these columns: the driver had not finished" in line
+                  for line in done.text.splitlines())
+        asking.same(f"{scene}: xruns", 50 if scene == "feedback" else 0, bad)
+
+
+def pictures_and_files(asking):
+    """A picture of the cycle of a line; all cycles for Perfetto, the culprit marked; both texts of one
+    reading; what a full disk leaves."""
+    dump, log = recording("late")
+    done = asking.tool("why", dump, log, "--picture", 21)
+    asking.same("late: --picture", (0, True, True), (done.status, "<svg" in done.text, "stopped" in done.text))
+    done = asking.tool("why", dump, log, "--picture", 20)
+    asking.same("late: --picture of another", (1, "", f"why: {log}: 20 is no line that is a cycle of its "
+                                               "own\n"), done.whole())
+    asking.tool("why", dump, log, "--perfetto", "p.json")
+    events = json.loads((asking.folder / "p.json").read_text())["traceEvents"]
+    marks = [event["args"]["line"] for event in events if event["name"] == "xrun"]
+    asking.same("late: marks", [21, 23, 47, 49, 72, 74, 98, 100], marks)
+    done = asking.tool("trace", dump, log, "--script", "one.graph")
+    asking.same("late: --script", ((asking.folder / "one.graph").read_text(), 0),
+                (asking.tool("graph", dump, log).text, done.status))
+    for tool, words in [("why", ["--perfetto", "/dev/full"]), ("trace", ["--script", "/dev/full"])]:
+        done = asking.tool(tool, dump, log, *words)
+        asking.same(f"{tool}: a full disk", (1, "", f"{tool}: /dev/full: No space left on device\n"),
+                    (done.status, done.text, done.errors.splitlines(True)[-1]))
+
+
 def left_out_by_name(asking):
     """What is left out is reported by name."""
     dump, log = recording("monitor")
@@ -235,4 +286,5 @@ def left_out_by_name(asking):
 
 
 TESTS = [scripts_run, scripts_say, plain_cycles_are_legal, events_say, late_cycles_are_illegal,
-         culprits_are_named, xruns_are_summed, left_out_by_name]
+         culprits_are_named, xruns_are_summed, graphs_that_change,
+         pictures_and_files, left_out_by_name]
