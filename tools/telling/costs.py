@@ -1,7 +1,7 @@
 """What each crate costs to prove, by the table of docs/CLAIMS.md, and how long what is left may take."""
 import os
 from pathlib import Path
-from typing import Dict, Iterable, Tuple
+from typing import Dict, Iterable, Optional, Tuple
 
 Part = Tuple[str, str]  # a crate, and "proof", "tests" or "edits"
 USUAL = {"proof": 60, "tests": 0, "edits": 0}  # of a crate that has no row
@@ -29,9 +29,14 @@ class Estimate:
         self.whole = sum(self.cost.values()) or 1.0
         self.processors = max(1, len(os.sched_getaffinity(0)))
 
-    def left(self, done: Iterable[Part], new: Iterable[Part], seconds: float) -> float:
-        """By the table and the processors first; once enough was done in this run, by how long that took."""
+    def left(self, done: Iterable[Part], new: Iterable[Part], seconds: float,
+             tried: Optional[Dict[Part, float]] = None) -> float:
+        """By the table and the processors first; once enough was done in this run, by how long that took.
+
+        Of parts that are `tried` so many seconds are done, or all that they cost.
+        """
         left = sum(self.cost.values()) - sum(self.cost.get(part, 0.0) for part in set(done))
+        left -= sum(min(spent, self.cost.get(part, 0.0)) for part, spent in (tried or {}).items())
         made = sum(self.cost.get(part, 0.0) for part in set(new))
         rate = made / seconds if seconds > 0 and made > SURE * self.whole else 0.8 * self.processors
         return max(0.0, left / rate)

@@ -22,10 +22,11 @@ class Gate:
         self.failed: Set[str] = set()
         self.done: Set[Part] = set()
         self.new: Set[Part] = set()
+        self.tried: Dict[Part, float] = {}  # since which second edits are tried
 
-    def see(self, line: str) -> None:
-        """Takes a line of `rt ci`."""
-        proved, kept, tests, failed = (it.match(line) for it in (PROVED, KEPT, TESTS, FAILED))
+    def see(self, line: str, seconds: float = 0) -> None:
+        """Takes a line of `rt ci`, and how many seconds it ran before. No line says that edits are done."""
+        proved, kept, tests, failed, edits = (it.match(line) for it in (PROVED, KEPT, TESTS, FAILED, EDITS))
         if proved:
             self.proved.add(proved[1])
             self.finish((proved[1], "proof"), True)
@@ -35,6 +36,9 @@ class Gate:
                 self.finish((kept[1], part), False)
         elif tests:
             self.finish((tests[1], "tests"), True)
+        elif edits:
+            self.done.discard((edits[1], "edits"))
+            self.tried[edits[1], "edits"] = seconds
         elif failed:
             self.failed.add(failed[1])
             for part in ("proof", "tests", "edits"):
@@ -48,6 +52,7 @@ class Gate:
     def said(self, seconds: float, about: Optional[str] = None) -> str:
         """The line of progress."""
         failed = f", {len(self.failed)} failed" if self.failed else ""
-        left = in_words(self.estimate.left(self.done, self.new, seconds))
+        tried = {part: seconds - since for part, since in self.tried.items()}
+        left = in_words(self.estimate.left(self.done, self.new, seconds, tried))
         return (f"{about or 'rt ci'}: {len(self.proved)} of {len(self.crates)} crates proved{failed}, {in_words(seconds)}, "
                 f"some {left} left")
