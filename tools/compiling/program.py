@@ -7,8 +7,8 @@ import threading
 from pathlib import Path
 from typing import Any, Callable, List, Set
 
-from .kit import Stopped
-from .module import Ran, lowered, unchecked
+from .kit import Stopped, full
+from .module import Ran, Run, lowered, unchecked
 
 TARGET = "x86_64-unknown-linux-gnu"
 Tell = Callable[[str], None]
@@ -45,6 +45,22 @@ class Commands:
                     pass
 
 
+def compiled(run: Run, kit: Path, folder: Path, text: Path, crate: str, out: Path) -> None:
+    """Writes the program of a module."""
+    plain, made = folder / "plain.ll", folder / "plain.o"
+    with text.open() as old, plain.open("w") as new:
+        new.writelines(unchecked(old))
+    text.unlink()
+    ran = run([kit / "toolchain/bin/clang", "-O2", "-fPIE", "-march=x86-64-v2", "-mllvm",
+               "-trap-unreachable", "-x", "ir", "-c", plain, "-o", made])
+    if not ran.status:
+        ran = run([kit / "bin/rattle-link", "--target", TARGET, "--toolchain", kit / "toolchain", "-o", out, made,
+                   kit / "c/libos_c.a", kit / "c/liblibc_c.a"])
+    if ran.status:
+        raise Stopped(f"crates/{crate} was not compiled:\n{ran.said[-2000:].strip()}")
+    out.chmod(0o755)
+
+
 def compile_program(commands: Commands, kit: Path, checkout: Path, crate: str, out: Path, tell: Tell) -> None:
     """Writes the program of a crate; what is between is in a temporary folder that does not stay."""
     with tempfile.TemporaryDirectory(prefix="pipegraph-unproved-") as name:
@@ -53,19 +69,16 @@ def compile_program(commands: Commands, kit: Path, checkout: Path, crate: str, o
         def run(words: List[Any], cwd: Any = None) -> Ran:
             return commands.run(folder, words, cwd)
 
-        tell("reads the source")
-        text = lowered(run, kit, folder, checkout, crate)
-        tell("compiles")
-        plain, made = folder / "plain.ll", folder / "plain.o"
-        with text.open() as old, plain.open("w") as new:
-            new.writelines(unchecked(old))
-        text.unlink()
-        ran = run([kit / "toolchain/bin/clang", "-O2", "-fPIE", "-march=x86-64-v2", "-mllvm",
-                   "-trap-unreachable", "-x", "ir", "-c", plain, "-o", made])
-        if not ran.status:
-            ran = run([kit / "bin/rattle-link", "--target", TARGET, "--toolchain", kit / "toolchain", "-o", out, made,
-                       kit / "c/libos_c.a", kit / "c/liblibc_c.a"])
-        if ran.status:
-            raise Stopped(f"crates/{crate} was not compiled:\n{ran.said[-2000:].strip()}")
-        out.chmod(0o755)
+        try:
+            tell("reads the source")
+            text = lowered(run, kit, folder, checkout, crate)
+            tell("compiles")
+            compiled(run, kit, folder, text, crate, out)
+        except (Stopped, OSError):
+            # whatever a tool says of it
+            at = full([folder, out.parent])
+            if at:
+                raise Stopped(f"no room is left on the disk of {at.parent}" + (
+                    "; TMPDIR names another folder for what is between" if at == folder else "")) from None
+            raise
         tell("is there")
