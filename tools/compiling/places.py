@@ -3,6 +3,8 @@ import os
 from pathlib import Path
 from typing import Dict, List, Optional
 
+from .layers import below, uses_of
+
 TOP = Path(__file__).resolve().parents[2]
 UNPROVED = "build/unproved"
 CRATES = {"pipegraph": "pw_main", "pipegraph-pods": "pw_pods"}
@@ -20,6 +22,17 @@ def proved(name: str, top: Path = TOP) -> Path:
     return tool_of(name, top) or top / "crates" / CRATES[name] / "out" / CRATES[name]
 
 
+def is_current(name: str, top: Path = TOP) -> bool:
+    """Whether a proved program is there that is as new as each file it is proved of, by their times, as make has it."""
+    program = proved(name, top)
+    if name in TOOLS or not program.is_file():
+        return program.is_file()
+    uses, made = uses_of(top), program.stat().st_mtime
+    files = [path for crate in [CRATES[name], *below(uses, CRATES[name])] for part in ("src", "specs", "proofs")
+             for path in (top / "crates" / crate / part).rglob("*")]
+    return all(path.stat().st_mtime <= made for path in [top / "crates.txt", *files])
+
+
 def unproved(name: str, top: Path = TOP) -> Path:
     """Where a program is that was compiled without proofs, or is a script."""
     return tool_of(name, top) or top / UNPROVED / name
@@ -32,6 +45,8 @@ def named_folder(name: str) -> List[Path]:
 
 
 def found(name: str, top: Path = TOP) -> Optional[Path]:
-    """The program that is to be run: of the folder that is named, else the proved one, else the other."""
-    tried = named_folder(name) or [proved(name, top), unproved(name, top)]
+    """The program that is to be run: of the folder that is named, else the proved one of this source, else the other."""
+    tried = named_folder(name) or [unproved(name, top)]
+    if not named_folder(name) and is_current(name, top):
+        tried = [proved(name, top)]
     return next((path for path in tried if path.is_file() and os.access(path, os.X_OK)), None)

@@ -1,4 +1,5 @@
 """Proves and builds the programs that are not built yet, and says how far it is."""
+import os
 import subprocess
 import sys
 from pathlib import Path
@@ -15,8 +16,8 @@ RUNS: Dict[str, List[str]] = {"pw_main": ["run", "/dev/null"], "pw_pods": ["--he
 
 
 def missing(top: Path) -> List[str]:
-    """The crates of the programs that are not built."""
-    return [crate for name, crate in places.CRATES.items() if not places.proved(name, top).is_file()]
+    """The crates of the programs that are not built, or are older than their source."""
+    return [crate for name, crate in places.CRATES.items() if not places.is_current(name, top)]
 
 
 class Proving:
@@ -56,10 +57,12 @@ def prove(top: Path, crate: str, proving: Proving) -> None:
             except subprocess.TimeoutExpired:
                 proving.show()
     proving.line.clear()
-    if not (top / "crates" / crate / "out" / crate).is_file():
+    program = top / "crates" / crate / "out" / crate
+    if begun.returncode or not program.is_file():
         sys.stderr.write("".join(log.read_text(errors="replace").splitlines(True)[-20:]))
         raise Stopped(f"crates/{crate} was not built")
     log.unlink()
+    os.utime(program)  # rt leaves it as it is where no text changed, but only times
 
 
 def prove_all(top: Path) -> None:
@@ -67,7 +70,7 @@ def prove_all(top: Path) -> None:
     crates = missing(top)
     proving = Proving(top, crates)
     for crate in crates:
-        print(f"crates/{crate} is not built yet: proving what it stands on and building it", file=sys.stderr)
+        print(f"crates/{crate} is not built of this source: proving what it stands on and building it", file=sys.stderr)
         try:
             prove(top, crate, proving)
         except FileNotFoundError:
