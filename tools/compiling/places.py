@@ -29,7 +29,7 @@ def is_current(name: str, top: Path = TOP) -> bool:
         return program.is_file()
     uses, made = uses_of(top), program.stat().st_mtime
     files = [path for crate in [CRATES[name], *below(uses, CRATES[name])] for part in ("src", "specs", "proofs")
-             for path in (top / "crates" / crate / part).rglob("*")]
+             for path in (top / "crates" / crate / part).rglob("*") if path.is_file()]
     return all(path.stat().st_mtime <= made for path in [top / "crates.txt", *files])
 
 

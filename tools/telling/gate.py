@@ -54,5 +54,5 @@ class Gate:
         failed = f", {len(self.failed)} failed" if self.failed else ""
         tried = {part: seconds - since for part, since in self.tried.items()}
         left = in_words(self.estimate.left(self.done, self.new, seconds, tried))
-        return (f"{about or 'rt ci'}: {len(self.proved)} of {len(self.crates)} crates proved{failed}, {in_words(seconds)}, "
-                f"some {left} left")
+        return (f"{about or 'rt ci'}: {len(self.proved)} of {len(self.crates)} crates proved{failed}, "
+                f"{in_words(seconds)}, some {left} left")
