@@ -45,7 +45,7 @@ def named_folder(name: str) -> List[Path]:
 
 
 def found(name: str, top: Path = TOP) -> Optional[Path]:
-    """The program that is to be run: of the folder that is named, else the proved one of this source, else the other."""
+    """The program that is to be run: of the folder that is named, else the proved one of this source, else another."""
     tried = named_folder(name) or [unproved(name, top)]
     if not named_folder(name) and is_current(name, top):
         tried = [proved(name, top)]
