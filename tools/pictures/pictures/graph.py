@@ -9,6 +9,7 @@ from typing import Dict, List, Optional, Set, Tuple
 from .look import DARK, GREY, LETTERS, RED, said, xml
 from .run_text import Made, causes
 from .script import INPUTS, OUTPUTS, Link, Node, Script
+from .timeline import ranks as depths
 
 FILLS = {b"source": "#d5ead6", b"square": "#d5ead6", b"sink": "#fbe0c8", b"meter": "#fcf1bd"}
 FILTER_FILL = "#dae6f5"
@@ -16,6 +17,8 @@ CORNERED = (b"source", b"square", b"sink", b"meter")
 FILE_SHOWN = 32
 # Of more links than this one format that most of them have is told once, below the graph.
 MANY_LINKS = 40
+# Many links between so few ranks need more room.
+FEW_RANKS = 4
 
 
 def file_said(name: bytes) -> str:
@@ -151,7 +154,7 @@ class Edges:
         """What the marks mean that occur."""
         nodes, links = self.script.nodes.values(), self.script.links
         marks = [
-            (self.told_once is not None, "links without a format: %d Hz, %d channels" % (self.told_once or (0, 0))),
+            (self.told_once is not None, "links without a format: %d Hz, %d ch" % (self.told_once or (0, 0))),
             (any(self.is_late(it) for it in links), "dashed: one cycle late, since one end is async"),
             (any(self.unlinked(it) and not self.is_refused(it) for it in links), "grey: a later line unlinks it"),
             (any(self.is_refused(it) for it in links), "red with a bar: the run refused it, and why"),
@@ -167,6 +170,14 @@ def ranks(script: Script) -> List[str]:
         names = [f"n{at}" for at, node in enumerate(script.nodes.values()) if node.kind in kinds]
         lines += [f"  {{ rank={rank}; {'; '.join(names)} }}"] if names else []
     return lines
+
+
+def room(script: Script) -> str:
+    """How far ranks and boxes stand apart."""
+    if len(script.links) <= MANY_LINKS:
+        return "ranksep=0.8; nodesep=0.35"
+    is_flat = max(depths(script).values()) < FEW_RANKS
+    return f"ranksep={3.2 if is_flat else 1.6}; nodesep=0.08"
 
 
 def about(script: Script, made: List[Made]) -> str:
@@ -185,10 +196,9 @@ def draw(script: Script, made: List[Made], title: str, fault: str = "") -> bytes
     """The graph; `fault` is a sentence on the line up to which a script at fault is drawn."""
     edges = Edges(script, made)
     label = below(script, edges, fault)
-    many = len(script.links) > MANY_LINKS
     lines = [
         "digraph pipegraph {",
-        f'  rankdir=LR; ranksep={1.6 if many else 0.8}; nodesep={0.08 if many else 0.35}; outputorder=edgesfirst;',
+        f"  rankdir=LR; {room(script)}; outputorder=edgesfirst;",
         f'  fontname="{LETTERS}"; fontsize=11; labelloc=b; labeljust=l; tooltip="{dot(title)}: {about(script, made)}";',
         f'  node [shape=plain, fontname="{LETTERS}", fontsize=12, fontcolor="{DARK}"];',
         f'  edge [arrowsize=0.7, color="{DARK}", fontname="{LETTERS}", fontsize=9, fontcolor="{DARK}"];',

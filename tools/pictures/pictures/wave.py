@@ -4,9 +4,11 @@ Source: w3.org, "SVG 1.1" (paths); decibels of full scale, 20 log10 of a share o
 """
 from __future__ import annotations
 
+import array
 import math
+import sys
 from dataclasses import dataclass
-from typing import List, Sequence, Tuple
+from typing import List, Tuple
 
 from .look import BLUE, DARK, GREY, PALE, RED, document, words
 from .wav import Samples
@@ -14,6 +16,10 @@ from .wav import Samples
 COLUMNS, LANE, GAP, LEFT, TOP = 1000, 256, 44, 64, 96
 LOWEST, HIGHEST = -32768, 32767
 FLOOR = -60
+# Of fewer frames in a column each is looked at by itself.
+FEW_FRAMES = 2048
+# Bytes so that the high ones of signed samples are in order, and so that the order of all is turned round.
+IN_ORDER, TURNED = bytes(byte ^ 128 for byte in range(256)), bytes(255 - byte for byte in range(256))
 
 
 @dataclass(frozen=True)
@@ -38,12 +44,33 @@ class Channel:
         return max((max(it.greatest, -it.least) for it in self.columns), default=0)
 
 
-def columns_of(lane: Sequence[int]) -> List[Column]:
+def greatest_byte(held: bytes) -> int:
+    return next(byte for byte in range(255, -1, -1) if byte in held)
+
+
+def greatest_of(held: bytes) -> int:
+    """The greatest of samples of 16 bits, the low byte first: by its high byte, and the low bytes of those that have it."""
+    high, low = held[1::2].translate(IN_ORDER), held[::2]
+    top = greatest_byte(high)
+    having = high.translate(bytes(255 if byte == top else 0 for byte in range(256)))
+    both = int.from_bytes(low, "little") & int.from_bytes(having, "little")
+    return (top - 128) * 256 + greatest_byte(both.to_bytes(len(low), "little"))
+
+
+def column_of(part: "array.array[int]") -> Column:
+    if len(part) < FEW_FRAMES:
+        return Column(min(part), max(part))
+    if sys.byteorder == "big":
+        part.byteswap()
+    held = part.tobytes()
+    return Column(~greatest_of(held.translate(TURNED)), greatest_of(held))
+
+
+def columns_of(lane: "array.array[int]") -> List[Column]:
     """A column for as many frames as there are for each of the thousand, one for each frame of fewer."""
     count = min(COLUMNS, len(lane))
     ends = [at * len(lane) // count for at in range(count + 1)] if count else [0]
-    parts = [lane[start:end] for start, end in zip(ends, ends[1:])]
-    return [Column(min(part), max(part)) for part in parts]
+    return [column_of(lane[start:end]) for start, end in zip(ends, ends[1:])]
 
 
 def channel_of(samples: Samples, number: int) -> Channel:

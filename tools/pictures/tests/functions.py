@@ -1,6 +1,7 @@
 """The readers of scripts and WAV files beside those of bench/outside, and small functions by hand."""
 from __future__ import annotations
 
+import array
 import random
 
 from .asking import Asking  # first: it makes the modules below known
@@ -78,16 +79,26 @@ def columns(asking: Asking) -> None:
     """Column c of n has the frames from floor(c n / 1000) on."""
     draw = random.Random(89)
     for count in [0, 1, 7, 999, 1000, 1001, 2500]:
-        lane = [draw.randint(-32768, 32767) for _ in range(count)]
+        lane = array.array("h", (draw.randint(-32768, 32767) for _ in range(count)))
         drawn = min(count, 1000)
         wanted = [(min(part), max(part)) for part in (
             lane[c * count // drawn:(c + 1) * count // drawn] for c in range(drawn))]
         asking.same(f"{count} frames", wanted, [(it.least, it.greatest) for it in wave.columns_of(lane)])
 
 
+def long_columns(asking: Asking) -> None:
+    """Of many frames the least and the greatest are those that each frame's look finds."""
+    draw = random.Random(94)
+    reaches = [(-32768, 32767), (-300, 300), (0, 0), (-1, 0), (255, 256), (-257, -256), (-32768, -32768), (32767, 32767)]
+    for low, high in reaches:
+        part = array.array("h", (draw.randint(low, high) for _ in range(wave.FEW_FRAMES + draw.randint(0, 9))))
+        wanted = wave.Column(min(part), max(part))
+        asking.same(f"{low} to {high}", wanted, wave.column_of(part[:]))
+
+
 def touching(asking: Asking) -> None:
     """Each column reaches the one before it."""
-    made = wave.columns_of([0, 900, -900, 5, 5])
+    made = wave.columns_of(array.array("h", [0, 900, -900, 5, 5]))
     reach = [wave.reach_of(made, at) for at in range(len(made))]
     asking.same("columns", True, all(low <= before_high and before_low <= high for (low, high), (before_low, before_high)
                                      in zip(reach[1:], reach)))
@@ -105,4 +116,4 @@ def bands(asking: Asking) -> None:
             asking.same("end", max(breaks, default=start + 200), end)
 
 
-TESTS = [scripts, wav_files, words_of_others, near_words, decibels, steps, columns, touching, bands]
+TESTS = [scripts, wav_files, words_of_others, near_words, decibels, steps, columns, long_columns, touching, bands]

@@ -10,6 +10,7 @@ from typing import Dict, List, Tuple
 from xml.etree import ElementTree
 
 from .asking import Asking
+from .large import deep_script, text_of, wide_script
 
 import model
 
@@ -169,31 +170,78 @@ def boxes_of(svg: str) -> Dict[str, Tuple[float, float, float, float]]:
     return found
 
 
+Point = Tuple[float, float]
+
+
+def curves_of(svg: str) -> Dict[str, List[Point]]:
+    """Points along each edge, eight of each curve of three that SVG calls C."""
+    found = {}
+    for group in ElementTree.fromstring(svg).iter("{http://www.w3.org/2000/svg}g"):
+        if group.get("class") == "edge":
+            path = group.find(".//{http://www.w3.org/2000/svg}path")
+            numbers = [float(it) for it in re.findall(r"-?\d+\.?\d*", "" if path is None else path.get("d") or "")]
+            bends = list(zip(numbers[::2], numbers[1::2]))
+            parts = [bends[at : at + 4] for at in range(0, len(bends) - 3, 3)]
+            found[group.get("id") or ""] = [on_curve(part, at / 8) for part in parts for at in range(9)]
+    return found
+
+
+def on_curve(bends: List[Point], share: float) -> Point:
+    """The point of a Bézier curve that is so far along it."""
+    rest = 1 - share
+    weights = (rest ** 3, 3 * rest ** 2 * share, 3 * rest * share ** 2, share ** 3)
+    x, y = (sum(weight * bend[axis] for weight, bend in zip(weights, bends)) for axis in (0, 1))
+    return x, y
+
+
+def passing(svg: str) -> List[str]:
+    """The edges that have a point within a box, two points and more from its border."""
+    boxes = boxes_of(svg).values()
+    return [edge for edge, points in curves_of(svg).items() if any(
+        box[0] + 2 < x < box[1] - 2 and box[2] + 2 < y < box[3] - 2 for x, y in points for box in boxes)]
+
+
+def svg_of(asking: Asking, *words: str) -> str:
+    """A graph as Graphviz lays it out."""
+    dot = asking.drawn("graph", *words)
+    return subprocess.run(["dot", "-Tsvg"], input=dot.encode(), stdout=subprocess.PIPE, check=True).stdout.decode()
+
+
 def laid_out(asking: Asking) -> None:
-    """Of 62 nodes and 230 links sources stand left, ends right, and no two boxes meet."""
+    """Of 62 nodes and 230 links sources stand left, ends right, no two boxes meet, and no edge passes through one."""
     if not shutil.which("dot"):
         print("Graphviz is not installed: what it lays out is passed over")
         return
-    draw = random.Random(92)
-    nodes = [f"square q{at} 48000 1 4 9" for at in range(8)] + [f"mix2 m{at} 9 9" for at in range(36)]
-    nodes += [f"meter v{at}" for at in range(18)]
-    ends = [(f"q{at}.out", 0) for at in range(8)] + [(f"m{at}.out", at + 1) for at in range(36)]
-    links = set()
-    while len(links) < 230:
-        out, after = draw.choice(ends)
-        to = draw.choice([f"m{at}.{draw.choice('ab')}" for at in range(after, 36)] + [f"v{at}.in" for at in range(18)])
-        links.add(f"link {out} {to}")
-    script = "\n".join([*nodes, *sorted(links), ""])
-    dot = asking.drawn("graph", asking.file("s", script))
-    svg = subprocess.run(["dot", "-Tsvg"], input=dot.encode(), stdout=subprocess.PIPE, check=True).stdout.decode()
+    for script, sources, ends in ((deep_script(), 8, 44), (wide_script(), 31, 61)):
+        svg = svg_of(asking, asking.file("s", script), asking.file("t", text_of(script)))
+        legible(asking, svg, sources, ends)
+
+
+def legible(asking: Asking, svg: str, sources: int, ends: int) -> None:
+    """The first nodes are sources, those from `ends` on have no output."""
     boxes = boxes_of(svg)
     asking.same("boxes", 62, len(boxes))
-    inner = [boxes[f"n{at}"] for at in range(8, 44)]
-    asking.same("sources left", True, max(boxes[f"n{at}"][1] for at in range(8)) < min(box[0] for box in inner))
-    asking.same("ends right", True, min(boxes[f"n{at}"][0] for at in range(44, 62)) > max(box[1] for box in inner))
+    inner = [boxes[f"n{at}"] for at in range(sources, ends)]
+    asking.same("sources left", True, max(boxes[f"n{at}"][1] for at in range(sources)) < min(it[0] for it in inner))
+    asking.same("ends right", True, min(boxes[f"n{at}"][0] for at in range(ends, 62)) > max(it[1] for it in inner))
     pairs = [(a, b) for a in boxes.values() for b in boxes.values() if a < b]
     meet = [1 for a, b in pairs if a[0] < b[1] and b[0] < a[1] and a[2] < b[3] and b[2] < a[3]]
     asking.same("boxes that meet", [], meet)
+    asking.same("edges", 230, len(curves_of(svg)))
+    asking.same("edges through a box", [], passing(svg))
 
 
-TESTS = [kinds, marks, refused, partial, random_graphs, laid_out]
+def small_ones_laid_out(asking: Asking) -> None:
+    """No edge passes through a box where links go back, are refused, or are late."""
+    if not shutil.which("dot"):
+        return
+    draw = random.Random(93)
+    for _ in range(12):
+        script = random_script(draw)
+        asking.same(script, [], passing(svg_of(asking, asking.file("s", script))))
+    loop = ("square q 48000 1 4 9\nmix2 m 9 9\ndelay d 9\nmeter v\nasync d\nlink q.out m.a\nlink m.out d.in\n"
+            "link d.out m.b\nlink m.out v.in\n")
+    asking.same(loop, [], passing(svg_of(asking, asking.file("s", loop))))
+
+
+TESTS = [kinds, marks, refused, partial, random_graphs, laid_out, small_ones_laid_out]
