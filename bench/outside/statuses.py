@@ -125,14 +125,14 @@ def documented_numbers(place):
                {status for _, status in OF_PODS if status} | {9})
 
 
-# The words that need memory, the program, and the line that is put where there is none.
+# The words that need memory, and the program. What Python makes of a call that is refused is its own,
+# so the tool for pictures is not asked.
 HUNGRY = [(["run", "one.graph"], MAIN), (["groups", "one.graph"], MAIN),
           (["check", "one.graph", "a.trace"], MAIN), (["dump", "a.pod"], MAIN),
           (["filter", "a.pod", "a.pod", "o.pod"], MAIN),
           (["automate", "a.wav", "gains.pod", "o.wav"], MAIN), (["soak", "7"], MAIN),
           (["gains", "a.gains", "o.pod"], PODS), (["pod", "a.text", "o.pod"], PODS),
-          (["format", "o.pod", "rate", "1", "channels", "2"], PODS),
-          *((words, PICTURES) for words in DRAWN)]
+          (["format", "o.pod", "rate", "1", "channels", "2"], PODS)]
 TRIED = 6  # of the calls for memory of each command
 
 

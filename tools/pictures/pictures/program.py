@@ -55,8 +55,9 @@ def draw_graph(asked: request.Graph) -> Answer:
     read = load_script(asked.script, asked.partial)
     made: List[run_text.Made] = []
     if asked.run is not None:
-        text = load_run(asked.run, read, asked.script)
+        text = load(asked.run, SECOND_PLACE, TRACE_BYTES)
         notes = load(asked.notes, NOTES_PLACE, TRACE_BYTES) if asked.notes is not None else b""
+        run_text.Reader(read).check(text, asked.run, asked.script)
         made = run_text.made_of(text, notes, read, asked.script)
     title = title_of(asked.script)
     if read.fault is None:
@@ -118,9 +119,14 @@ def picture(asked: request.Request) -> Answer:
 
 
 def put(text: bytes) -> bool:
-    """Puts a text on standard output; whether all of it was."""
+    """Puts a text on standard output; whether all of it was. An output without a buffer may take a part at a time."""
+    left = memoryview(text)
     try:
-        sys.stdout.buffer.write(text)
+        while left:
+            taken = sys.stdout.buffer.write(left)
+            if taken is None:
+                return False
+            left = left[taken:]
         sys.stdout.buffer.flush()
     except (OSError, ValueError, AttributeError):
         return False
@@ -163,9 +169,11 @@ def main(argv: List[str]) -> int:
             tell(PROGRAM + b"word %d is not text in UTF-8\n" % index)
             return 1
     answered = answer(words)
-    if put(answered.text):
+    is_put = put(answered.text)
+    if is_put or answered.status:
         tell(answered.said)
-        return answered.status
-    tell(PROGRAM + b"the picture could not be written\n")
-    closed_quietly()
-    return 7
+    else:
+        tell(PROGRAM + b"the picture could not be written\n")
+    if not is_put:
+        closed_quietly()
+    return answered.status if is_put else answered.status or 7

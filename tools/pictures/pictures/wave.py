@@ -49,7 +49,7 @@ def greatest_byte(held: bytes) -> int:
 
 
 def greatest_of(held: bytes) -> int:
-    """The greatest of samples of 16 bits, the low byte first: by its high byte, and the low bytes of those that have it."""
+    """The greatest of samples of 16 bits, low byte first: by its high byte, then the low bytes of those that have it."""
     high, low = held[1::2].translate(IN_ORDER), held[::2]
     top = greatest_byte(high)
     having = high.translate(bytes(255 if byte == top else 0 for byte in range(256)))
