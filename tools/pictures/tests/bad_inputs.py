@@ -36,7 +36,7 @@ def too_long(asking: Asking) -> None:
     said = "cannot read long: it has more than 268435456 bytes"
     refused(asking, ["wave", "long"], 8, "limit 1 2", said)
     refused(asking, ["graph", "s", "long"], 8, "limit 4294967295 11", said)
-    refused(asking, ["graph", "s", "s", "long"], 2, "line 1", "s:1: no line of a run")
+    refused(asking, ["graph", "s", "s", "long"], 8, "limit 3 11", said)
     asking.file("t", "begin 0\n")
     refused(asking, ["graph", "s", "t", "long"], 8, "limit 3 11", said)
 
