@@ -125,8 +125,8 @@ def documented_numbers(place):
                {status for _, status in OF_PODS if status} | {9})
 
 
-# The words that need memory, and the program. What Python makes of a call that is refused is its own,
-# so the tool for pictures is not asked.
+# The words that need memory, and the program. What Python makes of a call that is refused is its own, so
+# tools/pictures/test asks that of the tool for pictures.
 HUNGRY = [(["run", "one.graph"], MAIN), (["groups", "one.graph"], MAIN),
           (["check", "one.graph", "a.trace"], MAIN), (["dump", "a.pod"], MAIN),
           (["filter", "a.pod", "a.pod", "o.pod"], MAIN),

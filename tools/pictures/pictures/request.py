@@ -15,7 +15,8 @@ FORMS = b"""usage: pipegraph-pictures graph SCRIPT [RUN [NOTES]] [--partial]
        pipegraph-pictures timeline SCRIPT TRACE [FROM TO] [VERDICT] [--perfetto FILE]
        pipegraph-pictures wave FILE [--db]
 """
-VERSION = b"version 0.1; the manual: man pipegraph-pictures where it is installed, and man -l docs/pipegraph-pictures.1\n"
+VERSION = (b"version 0.1; the manual: man pipegraph-pictures where it is installed, "
+           b"and man -l docs/pipegraph-pictures.1\n")
 COMMANDS = [b"graph", b"timeline", b"wave"]
 NUMBER = re.compile(rb"0|[1-9][0-9]{0,9}")
 GREATEST = 4294967295

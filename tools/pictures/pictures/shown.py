@@ -1,6 +1,7 @@
 """Words of others as they are shown in a sentence, and the names that a word may mean.
 
-Source: UTF-8 (RFC 3629); distances are Levenshtein's; the choices are this project's (docs/FORMATS.md, docs/pipegraph.1).
+Source: UTF-8 (RFC 3629); distances are Levenshtein's; the choices are this project's (docs/FORMATS.md,
+docs/pipegraph.1).
 """
 from __future__ import annotations
 

@@ -49,7 +49,7 @@ def greatest_byte(held: bytes) -> int:
 
 
 def greatest_of(held: bytes) -> int:
-    """The greatest of samples of 16 bits, low byte first: by its high byte, then the low bytes of those that have it."""
+    """The greatest of samples of 16 bits, low byte first: by its high byte, then by the low bytes beside it."""
     high, low = held[1::2].translate(IN_ORDER), held[::2]
     top = greatest_byte(high)
     having = high.translate(bytes(255 if byte == top else 0 for byte in range(256)))
@@ -164,7 +164,7 @@ def ticks(seconds: float, bottom: int) -> List[str]:
         x = LEFT + (COLUMNS * at * step / seconds if seconds else 0)
         parts.append(f"<path class='t' d='M{x:.1f} {TOP}V{bottom}'/>")
         parts.append(words(round(x, 1), bottom + 18, f"{at * step:.{decimals}f}", "text-anchor='middle'"))
-    return parts + [words(LEFT + COLUMNS + 6, bottom + 18, "seconds")]
+    return parts + [words(LEFT + COLUMNS + 22, bottom + 18, "seconds")]
 
 
 def draw(samples: Samples, title: str, in_decibels: bool) -> bytes:
@@ -182,5 +182,5 @@ def draw(samples: Samples, title: str, in_decibels: bool) -> bytes:
     styles = [f".ground{{fill:#fafafa}}.g{{stroke:{PALE};fill:none}}.z{{stroke:{GREY}}}.w{{fill:{BLUE}}}"
               f".k{{fill:{RED}}}.t{{stroke:{DARK};stroke-opacity:.15}}.s{{font-size:11px;fill:{GREY}}}"]
     levels = "; ".join(f"channel {number + 1} {level_said(it.peak())}" for number, it in enumerate(channels))
-    return document(LEFT + COLUMNS + 64, bottom + 36, title, f"{about}; {levels}", styles,
+    return document(LEFT + COLUMNS + 80, bottom + 36, title, f"{about}; {levels}", styles,
                     head + lanes + ticks(seconds, bottom))

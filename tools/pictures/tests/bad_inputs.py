@@ -2,11 +2,14 @@
 from __future__ import annotations
 
 import os
+import resource
 import subprocess
 import sys
 
 from .asking import TOOL, Asking
 from .waves import wav
+
+from pictures import program
 
 SCRIPT = "quantum 4\nsquare a 48000 1 4 9\nsink o o.wav\nlink a.out o.in\ncycles 2\n"
 FRONT = "pipegraph-pictures: "
@@ -79,6 +82,37 @@ def outputs(asking: Asking) -> None:
     asking.same("a broken pipe", (7, said), (done.returncode, done.stderr))
     done = asking.ask("graph", "s", preexec_fn=lambda: os.close(1))
     asking.same("a closed output", (7, said), (done.returncode, done.stderr))
+    done = asking.ask("graph", "no", preexec_fn=lambda: os.close(1))
+    absent = b"pipegraph-pictures: cannot read no: there is no such file\n"
+    asking.same("a refusal keeps its status", (5, absent), (done.returncode, done.stderr))
+
+
+def cut_outputs(asking: Asking) -> None:
+    """A file that takes so many bytes and then no more, with a buffer and without: a prefix, and 7."""
+    asking.file("s", SCRIPT)
+    whole = asking.drawn("graph", "s").encode()
+    for unbuffered in ("", "1"):
+        with open(asking.folder / "cut", "wb") as cut:
+            done = asking.ask("graph", "s", stdout=cut, env={**os.environ, "PYTHONUNBUFFERED": unbuffered},
+                              preexec_fn=lambda: resource.setrlimit(resource.RLIMIT_FSIZE, (600, 600)))
+        asking.same("status", 7, done.returncode)
+        asking.same("prefix", whole[:600], (asking.folder / "cut").read_bytes())
+
+
+def no_memory(asking: Asking) -> None:
+    """Want of memory in any part of the work: 9, its line and its sentence."""
+    kept = program.picture
+    try:
+        program.picture = out_of_memory
+        got = program.answer([b"graph", b"s"])
+    finally:
+        program.picture = kept
+    said = b"pipegraph-pictures: no memory was left\n"
+    asking.same("answer", (9, b"memory\n", said), (got.status, got.text, got.said))
+
+
+def out_of_memory(_: object) -> program.Answer:
+    raise MemoryError
 
 
 def stores(asking: Asking) -> None:
@@ -106,4 +140,5 @@ def helps(asking: Asking) -> None:
         asking.same(word, (0, True, b""), (done.returncode, done.stdout.startswith(front), done.stderr))
 
 
-TESTS = [nothing, too_long, cut_waves, other_scripts, no_text, outputs, stores, perfetto_over_input, helps]
+TESTS = [nothing, too_long, cut_waves, other_scripts, no_text, outputs, cut_outputs, no_memory, stores,
+         perfetto_over_input, helps]

@@ -89,7 +89,8 @@ def columns(asking: Asking) -> None:
 def long_columns(asking: Asking) -> None:
     """Of many frames the least and the greatest are those that each frame's look finds."""
     draw = random.Random(94)
-    reaches = [(-32768, 32767), (-300, 300), (0, 0), (-1, 0), (255, 256), (-257, -256), (-32768, -32768), (32767, 32767)]
+    reaches = [(-32768, 32767), (-300, 300), (0, 0), (-1, 0), (255, 256), (-257, -256), (-32768, -32768),
+               (32767, 32767)]
     for low, high in reaches:
         part = array.array("h", (draw.randint(low, high) for _ in range(wave.FEW_FRAMES + draw.randint(0, 9))))
         wanted = wave.Column(min(part), max(part))
@@ -100,15 +101,16 @@ def touching(asking: Asking) -> None:
     """Each column reaches the one before it."""
     made = wave.columns_of(array.array("h", [0, 900, -900, 5, 5]))
     reach = [wave.reach_of(made, at) for at in range(len(made))]
-    asking.same("columns", True, all(low <= before_high and before_low <= high for (low, high), (before_low, before_high)
-                                     in zip(reach[1:], reach)))
+    pairs = zip(reach[1:], reach)
+    asking.same("columns", True, all(one[0] <= before[1] and before[0] <= one[1] for one, before in pairs))
 
 
 def bands(asking: Asking) -> None:
     """Bands hold all events in their order, at most 200 each, and end before a begin where they can."""
     draw = random.Random(90)
     for _ in range(200):
-        events = [run_text.Event(b"begin" if draw.random() < 0.05 else b"end", 0, ()) for _ in range(draw.randint(0, 999))]
+        kinds = [b"begin" if draw.random() < 0.05 else b"end" for _ in range(draw.randint(0, 999))]
+        events = [run_text.Event(kind, 0, ()) for kind in kinds]
         made = timeline.bands_of(events)
         asking.same("places", list(range(len(events))), [at for band in made for at in range(*band)])
         for start, end in made[:-1]:

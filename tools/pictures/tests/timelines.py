@@ -1,4 +1,4 @@
-"""What a timeline shows: its rows, bars, rules and marks, parsed out of the SVG; and the events as Perfetto opens them."""
+"""What a timeline shows: its rows, bars, rules and marks, parsed out of the SVG; and the events for Perfetto."""
 from __future__ import annotations
 
 import json
