@@ -23,7 +23,7 @@ const NODES: [(u32, u32, &'static [u32]); 4] = [
     (3, 4, &[0, 1, 2, 3]),
 ];
 
-/// Their links, each from a port to a port.
+/// Their links, each of one channel from a port to a port.
 const LINKS: [((u32, u32), (u32, u32)); 4] = [
     ((0, 0), (1, 0)),
     ((1, 1), (2, 0)),
@@ -31,23 +31,18 @@ const LINKS: [((u32, u32), (u32, u32)); 4] = [
     ((2, 2), (3, 0)),
 ];
 
-// The nodes of these rows.
-fn nodes_of(alloc: Global, rows: &[(u32, u32, &[u32])]) -> Result<Items<ShapeNode>, Memory> {
+// The row for one cycle. The sink drives.
+fn row(alloc: Global) -> Result<Shape, Memory> {
     let mut nodes = Items::new(alloc);
-    for (node, required, targets) in rows {
+    for (node, required, targets) in NODES.as_slice() {
         nodes.push(ShapeNode {
             node: *node,
             required: *required,
             targets: Items::from_slice(alloc, targets)?,
         })?;
     }
-    Ok(nodes)
-}
-
-// The links of these rows, each of one channel.
-fn links_of(alloc: Global, rows: &[((u32, u32), (u32, u32))]) -> Result<Items<ShapeLink>, Memory> {
     let mut links = Items::new(alloc);
-    for (from, to) in rows {
+    for (from, to) in LINKS.as_slice() {
         links.push(ShapeLink {
             from: PortId {
                 node: from.0,
@@ -62,19 +57,13 @@ fn links_of(alloc: Global, rows: &[((u32, u32), (u32, u32))]) -> Result<Items<Sh
             delayed: false,
         })?;
     }
-    Ok(links)
-}
-
-// The row for one cycle. The sink drives.
-fn row(alloc: Global) -> Result<Shape, Memory> {
-    let nodes = nodes_of(alloc, NODES.as_slice())?;
     Ok(Shape {
         quantum: 4,
         first: 0,
         cycles: 1,
         driver: 3,
         nodes,
-        links: links_of(alloc, LINKS.as_slice())?,
+        links,
     })
 }
 

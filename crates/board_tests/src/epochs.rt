@@ -166,6 +166,7 @@ fn closed(board: Board, seat: DriverSeat) -> Option<Closed>
     }
 }
 
+// The events of this driver's cycles.
 fn events_of(driver: u32) -> [Event; 13] {
     [
         Event::Begin { cycle: 0 },
@@ -202,21 +203,19 @@ fn events_of(driver: u32) -> [Event; 13] {
     ]
 }
 
-// Whether the board of this driver is closed with these events.
-fn runs_alone(alloc: Global, driver: u32) -> bool {
-    match opened(alloc, driver) {
-        Ok(Some((board, seat))) => match closed(board, seat) {
-            Some(closed) => closed.events().as_slice() == events_of(driver).as_slice(),
-            None => false,
-        },
-        _ => false,
-    }
-}
-
 // Node 63 is the silent driver, and node 5 a sink without a form.
 #[test]
 fn a_driver_runs_alone(rt: HostRuntime) -> Result<(), Fail> {
-    assert!(rt; runs_alone(rt.alloc(), 63));
-    assert!(rt; runs_alone(rt.alloc(), 5));
+    for driver in [63, 5] {
+        let ended = match opened(rt.alloc(), driver) {
+            Ok(Some((board, seat))) => closed(board, seat),
+            _ => None,
+        };
+        let went = match ended {
+            Some(ended) => ended.events().as_slice() == events_of(driver).as_slice(),
+            None => false,
+        };
+        assert_eq!(rt; (driver, went), (driver, true));
+    }
     Ok(())
 }
