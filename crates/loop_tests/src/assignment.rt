@@ -24,16 +24,6 @@ const LOOPS: [(u32, u32, u32); 8] = [
     (2, 16, 16),
 ];
 
-// Whether each node of these rows has its loop.
-fn have_loops(plan: &Plan, rows: &[(u32, u32, u32)]) -> bool {
-    for (node, loops, which) in rows {
-        if loop_of(plan, *loops, *node) != *which {
-            return false;
-        }
-    }
-    true
-}
-
 // Whether the nodes of a loop are these.
 fn has_nodes(alloc: Global, plan: &Plan, loops: u32, which: u32, wanted: &[u32]) -> bool
     requires few { loops ≤ loops_limit }
@@ -64,15 +54,6 @@ fn has_cells(alloc: Global, plan: &Plan) -> bool {
     }
 }
 
-// Whether the nodes of the squares have their loops, and the loops their nodes.
-fn is_assigned(alloc: Global, plan: &Plan) -> bool {
-    have_loops(plan, LOOPS.as_slice())
-        && has_nodes(alloc, plan, 2, 1, &[1])
-        && has_nodes(alloc, plan, 2, 2, &[2])
-        && has_nodes(alloc, plan, 0, 0, &[0, 1, 2])
-        && has_cells(alloc, plan)
-}
-
 // Whether each of two loops and the driver's own has a seat on each of two boards.
 fn has_seats(alloc: Global, work: &Work) -> bool
     requires { CanRun work.now.plan work.now.waves }
@@ -91,12 +72,22 @@ fn has_seats(alloc: Global, work: &Work) -> bool
     }
 }
 
-// Both of the two squares.
+// Whether the nodes of the squares have their loops, and the loops their nodes and their seats.
 fn squares_are_assigned(alloc: Global) -> bool {
-    match work_of(alloc, TWO_SQUARES) {
-        Some(work) => is_assigned(alloc, &work.plan) && has_seats(alloc, &work),
-        None => false,
+    let Some(work) = work_of(alloc, TWO_SQUARES) else {
+        return false;
+    };
+    let plan = &work.plan;
+    for (node, loops, which) in LOOPS.as_slice() {
+        if loop_of(plan, *loops, *node) != *which {
+            return false;
+        }
     }
+    has_nodes(alloc, plan, 2, 1, &[1])
+        && has_nodes(alloc, plan, 2, 2, &[2])
+        && has_nodes(alloc, plan, 0, 0, &[0, 1, 2])
+        && has_cells(alloc, plan)
+        && has_seats(alloc, &work)
 }
 
 #[test]

@@ -4,15 +4,15 @@
 //! A line has what was done, seven cells of words, and what the three seats know, which contracts
 //! say and nobody reads here. A status is 4 times the cycle, and 1 more for TRIGGERED, 2 for AWAKE,
 //! 3 for FINISHED. An area has the number of its block, a block its readers and its four samples.
-ghost use Rattle.std.specs.Prelude.{IfSome};
 ghost use Rattle.loop_tests.specs.Crew.{IsCrewOn};
 
 use crate::crew::Crew;
-use crate::stepping::{crew_of, try_at};
+use crate::stepping::try_at;
+use crate::steps::crew_by;
 use crate::table_lines::line_is;
 use board_rule::Board;
 use data_loop::Tried;
-use plan_support::{WorkRow, work_of};
+use plan_support::WorkRow;
 use pw_outside::{Gate, Open};
 use std::alloc::Global;
 use std::sync::atomic::{AtomicU64, Ordering};
@@ -188,37 +188,11 @@ struct InTurn<'b> {
     seen: AtomicU64,
 }
 
-impl<'b> InTurn<'b> {
-    fn new(alloc: Global, board: &'b Board, line: &'static str) -> InTurn<'b> {
-        InTurn {
-            alloc,
-            board,
-            line,
-            seen: AtomicU64::new(0),
-        }
-    }
-
-    // Whether there was one turn, with these words.
-    fn was_so(&self) -> bool {
-        self.seen.load(Ordering::SeqCst) == 1
-    }
-}
-
 impl<'b> Gate for InTurn<'b> {
     fn enter(&self, _node: u32, _cycle: u32) {
         if line_is(self.alloc, self.board, self.line) {
             self.seen.fetch_add(1, Ordering::SeqCst);
         }
-    }
-}
-
-// The crew of the graph on its board, with two loops.
-fn graph_crew(alloc: Global) -> Option<(Board, Crew)>
-    ensures { IfSome result (λ t. IsCrewOn t.0 t.1) }
-{
-    match work_of(alloc, GRAPH) {
-        Some(work) => crew_of(alloc, &work, 2),
-        None => None,
     }
 }
 
@@ -234,9 +208,14 @@ fn runs(
     requires on { IsCrewOn board.now crew.old }
     ensures on { IsCrewOn board.now crew.new }
 {
-    let inside = InTurn::new(alloc, board, line);
+    let inside = InTurn {
+        alloc,
+        board,
+        line,
+        seen: AtomicU64::new(0),
+    };
     let tried = try_at(board, crew, which, node, &inside);
-    tried == Tried::Ran && inside.was_so()
+    tried == Tried::Ran && inside.seen.load(Ordering::SeqCst) == 1
 }
 
 // The turn of the driver's node, with a line inside it.
@@ -244,9 +223,14 @@ fn leads(alloc: Global, board: &Board, crew: &mut Crew, line: &'static str) -> b
     requires on { IsCrewOn board.now crew.old }
     ensures on { IsCrewOn board.now crew.new }
 {
-    let inside = InTurn::new(alloc, board, line);
+    let inside = InTurn {
+        alloc,
+        board,
+        line,
+        seen: AtomicU64::new(0),
+    };
     let ended = crew.lead_at(board, &inside);
-    ended && inside.was_so()
+    ended && inside.seen.load(Ordering::SeqCst) == 1
 }
 
 // Whether a call goes so.
@@ -284,16 +268,12 @@ fn first_wrong(
     None
 }
 
-// That row of the graph; 99 where it has no board.
-fn wrong_row(alloc: Global) -> Option<usize> {
-    match graph_crew(alloc) {
-        Some((board, mut crew)) => first_wrong(alloc, &board, &mut crew, TABLE.as_slice()),
-        None => Some(99),
-    }
-}
-
 #[test]
 fn two_cycles_leave_the_words_of_the_table(rt: HostRuntime) -> Result<(), Fail> {
-    assert_eq!(rt; wrong_row(rt.alloc()), None);
+    let wrong = match crew_by(rt.alloc(), GRAPH, 2) {
+        Some((board, mut crew)) => first_wrong(rt.alloc(), &board, &mut crew, TABLE.as_slice()),
+        None => Some(TABLE.len()),
+    };
+    assert_eq!(rt; wrong, None);
     Ok(())
 }

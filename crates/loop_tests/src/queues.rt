@@ -1,36 +1,29 @@
 //! What the row of a split and a mixer wakes, and how that is sent to the queues of its two loops.
-ghost use Rattle.std.specs.Prelude.{◌≡◌, IfOk, IfSome, [], ◌∷◌};
+ghost use Rattle.std.specs.Prelude.{◌≡◌, IfSome};
 ghost use Rattle.data_loop.specs.LoopWay.{IsDriverWay};
 ghost use Rattle.ready_queues.specs.AnsweredWith.{IsWayOf};
 ghost use Rattle.loop_tests.specs.Crew.{IsCrewOn};
 
 use crate::crew::Crew;
 use crate::stepping::try_at;
-use crate::steps::row_crew;
+use crate::steps::{ROW, crew_by};
 use board_rule::{Board, BoardSeat};
 use data_loop::{Tried, Way, Ways};
-use pw_lists::{Items, Memory};
+use pw_lists::Items;
 use pw_outside::Open;
 use std::alloc::Global;
 use std::sync::Wait;
 use std::test::Fail;
 
-// The loops of the row's nodes: 0 and 2 are of loop 0, 1 is of loop 1, and the sink is the driver's
-// own.
-fn owners(alloc: Global) -> Result<Items<u32>, Memory>
-    ensures { IfOk result (λ owner. owner ≡ 0 ∷ 1 ∷ 0 ∷ 2 ∷ []) }
-{
-    Items::from_slice(alloc, &[0, 1, 0, 2])
-}
-
-// The ways of the row: the driver's, and those of the two loops.
+// The ways of the row: the driver's, which has the sink, and those of loop 0, which has the nodes 0
+// and 2, and of loop 1, which has node 1.
 pub(crate) fn row_ways(alloc: Global) -> Option<(Ways, Way, Way, Way)>
     ensures loops { IfSome result (λ t. t.0.loops ≡ 2) }
     ensures driver { IfSome result (λ t. IsDriverWay t.0 t.1) }
     ensures first { IfSome result (λ t. IsWayOf t.0 t.2 × (t.2.number ≡ 0)) }
     ensures second { IfSome result (λ t. IsWayOf t.0 t.3 × (t.3.number ≡ 1)) }
 {
-    let Ok(owner) = owners(alloc) else {
+    let Ok(owner) = Items::from_slice(alloc, &[0, 1, 0, 2]) else {
         return None;
     };
     let Ok((ways, driver, mut others)) = Ways::new(alloc, &owner, 2) else {
@@ -57,14 +50,6 @@ fn woken(board: &Board, crew: &mut Crew) -> Option<(u64, u64)>
     match try_at(board, crew, 0, 0, &Open::new()) {
         Tried::Ran => Some((begun, crew.woke(0))),
         _ => None,
-    }
-}
-
-// The same in the row.
-fn woken_in_row(alloc: Global) -> Option<(u64, u64)> {
-    match row_crew(alloc) {
-        Some((board, mut crew)) => woken(&board, &mut crew),
-        None => None,
     }
 }
 
@@ -101,26 +86,18 @@ fn numbers_come<R: Wait>(
     (sent, forwarded) == (0, 0) && early == [Some(0), None] && late == [None, Some(1)]
 }
 
-// The same by the ways of the row.
-fn row_sends<R: Wait>(rt: &R, alloc: Global, woke: (u64, u64)) -> bool {
-    match row_ways(alloc) {
-        Some((ways, mut way, mut first, mut second)) => {
-            numbers_come(rt, &ways, &mut way, &mut first, &mut second, woke)
-        }
-        None => false,
-    }
-}
-
 // Whether the row wakes the source and then the split, and their numbers are sent to their loops.
-fn row_wakes<R: Wait>(rt: &R, alloc: Global) -> bool {
-    match woken_in_row(alloc) {
-        Some(woke) => woke == (1, 2) && row_sends(rt, alloc, woke),
-        None => false,
-    }
+// None where it is not made, or the source is not awake.
+fn row_wakes<R: Wait>(rt: &R, alloc: Global) -> Option<bool> {
+    let (board, mut crew) = crew_by(alloc, ROW, 2)?;
+    let woke = woken(&board, &mut crew)?;
+    let (ways, mut way, mut first, mut second) = row_ways(alloc)?;
+    let come = numbers_come(rt, &ways, &mut way, &mut first, &mut second, woke);
+    Some(woke == (1, 2) && come)
 }
 
 #[test]
 fn what_is_woken_goes_to_its_loop(rt: HostRuntime) -> Result<(), Fail> {
-    assert!(rt; row_wakes(&rt, rt.alloc()));
+    assert_eq!(rt; row_wakes(&rt, rt.alloc()), Some(true));
     Ok(())
 }

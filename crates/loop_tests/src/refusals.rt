@@ -111,16 +111,12 @@ fn squares_meet<R: Threads + Wait + Sync>(
     Some(meet.met())
 }
 
-// Whether the squares meet where only one is adopted, and not where the other's start is refused
-// too: then the driver's thread runs both.
-fn refused_are_adopted<R: Threads + Wait + Sync>(rt: &R, alloc: Global) -> bool {
-    squares_meet(rt, alloc, &[true, false], 2) == Some(true)
-        && squares_meet(rt, alloc, &[true, false], 1) == Some(false)
-        && squares_meet(rt, alloc, &[false, true], 0) == Some(false)
-}
-
+// The squares meet where only one is adopted, and not where the other's start is refused too: then
+// the driver's thread runs both.
 #[test]
 fn a_loop_that_cannot_be_started_is_the_drivers(rt: HostRuntime) -> Result<(), Fail> {
-    assert!(rt; refused_are_adopted(&rt, rt.alloc()));
+    assert_eq!(rt; squares_meet(&rt, rt.alloc(), &[true, false], 2), Some(true));
+    assert_eq!(rt; squares_meet(&rt, rt.alloc(), &[true, false], 1), Some(false));
+    assert_eq!(rt; squares_meet(&rt, rt.alloc(), &[false, true], 0), Some(false));
     Ok(())
 }

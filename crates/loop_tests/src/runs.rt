@@ -52,19 +52,15 @@ fn run_by<R: Threads + Wait + Sync, G: Gate + Sync>(
     }
 }
 
-// What a sample is at an index, where some zeros are first and then these again and again.
-fn sample_at(at: usize, zeros: usize, period: [i16; 8]) -> i16 {
-    if at < zeros {
-        0
-    } else {
-        period[(at - zeros) % 8]
-    }
-}
-
 // Whether samples are `zeros` zeros, and then these again and again.
 fn is_wave(samples: &[i16], zeros: usize, period: [i16; 8]) -> bool {
     for at in 0..samples.len() {
-        if samples[at] != sample_at(at, zeros, period) {
+        let wanted = if at < zeros {
+            0
+        } else {
+            period[(at - zeros) % 8]
+        };
+        if samples[at] != wanted {
             return false;
         }
     }
@@ -102,91 +98,26 @@ pub(crate) fn have_kept(outcome: &Outcome, kept: Kept<'_>) -> bool {
     }
 }
 
-// Whether a run by these loops has the boards of the row and a legal history, and its sinks keep
-// what they are to keep.
-fn runs_so<R: Threads + Wait + Sync>(
-    rt: &R,
-    alloc: Global,
-    work: &Work,
-    adopt: &[bool],
-    row: &RunRow<'_>,
-) -> bool
-    requires { CanRun work.now.plan work.now.waves }
-{
-    match run_by(rt, alloc, work, adopt, &Open::new()) {
-        Some((outcome, boards)) => {
-            boards == row.boards
-                && have_kept(&outcome, row.kept)
-                && is_legal_history(work.plan.epochs.as_slice(), outcome.history.as_slice())
-        }
-        None => false,
-    }
-}
-
-// The same by each choice of loops.
-fn all_run_so<R: Threads + Wait + Sync>(
-    rt: &R,
-    alloc: Global,
-    work: &Work,
-    row: &RunRow<'_>,
-) -> bool
-    requires { CanRun work.now.plan work.now.waves }
-{
+/// Whether a run of a row by each of its choices has its boards and a legal history, and its sinks
+/// keep what they are to keep.
+pub(crate) fn row_runs<R: Threads + Wait + Sync>(rt: &R, alloc: Global, row: &RunRow<'_>) -> bool {
+    let Some(work) = work_of(alloc, row.work) else {
+        return false;
+    };
     for adopt in row.choices {
-        if !runs_so(rt, alloc, work, adopt, row) {
+        let Some((outcome, boards)) = run_by(rt, alloc, &work, adopt, &Open::new()) else {
+            return false;
+        };
+        let legal = is_legal_history(work.plan.epochs.as_slice(), outcome.history.as_slice());
+        if boards != row.boards || !have_kept(&outcome, row.kept) || !legal {
             return false;
         }
     }
     true
 }
 
-// The same of the work of a row.
-fn row_runs<R: Threads + Wait + Sync>(rt: &R, alloc: Global, row: &RunRow<'_>) -> bool {
-    match work_of(alloc, row.work) {
-        Some(work) => all_run_so(rt, alloc, &work, row),
-        None => false,
-    }
-}
-
-/// The first row of which some run goes otherwise.
-pub(crate) fn first_unlike<R: Threads + Wait + Sync>(
-    rt: &R,
-    alloc: Global,
-    rows: &[RunRow<'_>],
-) -> Option<usize> {
-    for at in 0..rows.len() {
-        if !row_runs(rt, alloc, &rows[at]) {
-            return Some(at);
-        }
-    }
-    None
-}
-
-// Whether the nodes 0 and 1 met in a run of a work, whose sinks are to keep this. None where they
-// do not.
-fn met<R: Threads + Wait + Sync>(
-    rt: &R,
-    alloc: Global,
-    work: &Work,
-    adopt: &[bool],
-    kept: Kept<'_>,
-) -> Option<bool>
-    requires { CanRun work.now.plan work.now.waves }
-{
-    let meet = Meet::new(0, 1);
-    match run_by(rt, alloc, work, adopt, &meet) {
-        Some((outcome, _boards)) => {
-            if have_kept(&outcome, kept) {
-                Some(meet.met())
-            } else {
-                None
-            }
-        }
-        None => None,
-    }
-}
-
-/// The same of the work of a row, by its first choice.
+/// Whether the nodes 0 and 1 met in a run of a row by its only choice. None where there are others,
+/// or the sinks do not keep what they are to keep.
 pub(crate) fn meet_in<R: Threads + Wait + Sync>(
     rt: &R,
     alloc: Global,
@@ -195,8 +126,12 @@ pub(crate) fn meet_in<R: Threads + Wait + Sync>(
     let [adopt] = row.choices else {
         return None;
     };
-    match work_of(alloc, row.work) {
-        Some(work) => met(rt, alloc, &work, adopt, row.kept),
-        None => None,
+    let work = work_of(alloc, row.work)?;
+    let meet = Meet::new(0, 1);
+    let (outcome, _boards) = run_by(rt, alloc, &work, adopt, &meet)?;
+    if have_kept(&outcome, row.kept) {
+        Some(meet.met())
+    } else {
+        None
     }
 }

@@ -10,7 +10,7 @@ ghost use Rattle.loop_tests.specs.Crew.{IsCrewOn};
 use crate::crew::Crew;
 use crate::stepping::{crew_of, settle_at, try_at};
 use crate::words::{Inside, areas_are, block_is, nodes_are};
-use board_rule::{Board, Closed};
+use board_rule::Board;
 use data_loop::Tried;
 use plan_support::{WorkRow, work_of};
 use pw_graph::Event;
@@ -35,7 +35,7 @@ const LATE_FAN: WorkRow<'static> = WorkRow {
 };
 
 /// A source, a split and a mixer in a row; loop 0 has the source and the mixer, loop 1 the split.
-const ROW: WorkRow<'static> = WorkRow {
+pub(crate) const ROW: WorkRow<'static> = WorkRow {
     text: "quantum 4\nsource s s.wav\nsplit x\nloop x 1\nmix2 m 256 256\nsink o o.wav\ndriver o 1\n\
         link s.out x.in\nlink x.left m.a\nlink x.right m.b\nlink m.out o.in\ncycles 1\n",
     channels: 2,
@@ -84,8 +84,8 @@ enum Step {
     Block([u64; 3], u64, u64),
 }
 
-// The crew of a work on its board.
-fn crew_by(alloc: Global, row: WorkRow<'_>, loops: u32) -> Option<(Board, Crew)>
+/// The crew of a work on its board.
+pub(crate) fn crew_by(alloc: Global, row: WorkRow<'_>, loops: u32) -> Option<(Board, Crew)>
     requires few { loops ≤ loops_limit }
     ensures { IfSome result (λ t. IsCrewOn t.0 t.1) }
 {
@@ -93,13 +93,6 @@ fn crew_by(alloc: Global, row: WorkRow<'_>, loops: u32) -> Option<(Board, Crew)>
         Some(work) => crew_of(alloc, &work, loops),
         None => None,
     }
-}
-
-/// The crew of a row of a source, a split, a mixer and a sink, in two loops.
-pub(crate) fn row_crew(alloc: Global) -> Option<(Board, Crew)>
-    ensures { IfSome result (λ t. IsCrewOn t.0 t.1) }
-{
-    crew_by(alloc, ROW, 2)
 }
 
 // One try in whose turn the words are these.
@@ -281,41 +274,23 @@ fn wrong_in(alloc: Global, row: StepsRow) -> Option<usize> {
     }
 }
 
-// The first row with such a step, and the step.
-fn first_unlike(alloc: Global, rows: &[StepsRow]) -> Option<(usize, usize)> {
-    for at in 0..rows.len() {
-        if let Some(step) = wrong_in(alloc, rows[at]) {
-            return Some((at, step));
-        }
-    }
-    None
-}
-
-// That of the rows above.
-fn first_unlike_row(alloc: Global) -> Option<(usize, usize)> {
-    first_unlike(alloc, ROWS.as_slice())
-}
-
 #[test]
 fn each_step_leaves_its_words(rt: HostRuntime) -> Result<(), Fail> {
-    assert_eq!(rt; first_unlike_row(rt.alloc()), None);
+    for at in 0..4usize {
+        assert_eq!(rt; (at, wrong_in(rt.alloc(), ROWS[at])), (at, None));
+    }
     Ok(())
 }
 
-// Whether a board is closed with the events above.
-fn has_events(closed: Option<Closed>) -> bool {
-    match closed {
-        Some(closed) => closed.events().as_slice() == EVENTS.as_slice(),
-        None => false,
-    }
-}
-
-// Whether the row takes its steps, and its board ends with these events.
+// Whether the row takes its steps, and its board is closed with the events above.
 fn ends_with_events(alloc: Global) -> bool {
-    match row_crew(alloc) {
+    match crew_by(alloc, ROW, 2) {
         Some((board, mut crew)) => {
             let wrong = first_wrong(alloc, &board, &mut crew, LATE_CHECK.as_slice());
-            has_events(crew.close(board)) && wrong == None
+            match crew.close(board) {
+                Some(closed) => wrong == None && closed.events().as_slice() == EVENTS.as_slice(),
+                None => false,
+            }
         }
         None => false,
     }

@@ -1,11 +1,8 @@
 //! Whole runs by threads: whichever loops are adopted, and however many there are.
 
-use crate::runs::{Kept, RunRow, first_unlike, meet_in};
+use crate::runs::{Kept, RunRow, meet_in, row_runs};
 use plan_support::WorkRow;
-use std::alloc::Global;
-use std::sync::Wait;
 use std::test::Fail;
-use std::thread::Threads;
 
 /// Two squares of 100 into a sink that drives, for five cycles in two epochs.
 pub(crate) const TWO_SQUARES: WorkRow<'static> = WorkRow {
@@ -152,24 +149,22 @@ const OWN_FOLLOWER: RunRow<'static> = RunRow {
     kept: Kept::Waves(40, &[0, 0], [100, 100, 100, 100, -100, -100, -100, -100]),
 };
 
-// The first of these that goes otherwise by some choice of loops.
-fn first_unlike_run<R: Threads + Wait + Sync>(rt: &R, alloc: Global) -> Option<usize> {
-    let rows = [
-        SQUARES,
-        THREE_LOOPS,
-        ON_AND_OFF,
-        SIXTEEN_LOOPS,
-        ONE_BLOCK,
-        LATE_READER,
-        UNLIKE_POOLS,
-        OWN_FOLLOWER,
-    ];
-    first_unlike(rt, alloc, rows.as_slice())
-}
+const ROWS: [RunRow<'static>; 8] = [
+    SQUARES,
+    THREE_LOOPS,
+    ON_AND_OFF,
+    SIXTEEN_LOOPS,
+    ONE_BLOCK,
+    LATE_READER,
+    UNLIKE_POOLS,
+    OWN_FOLLOWER,
+];
 
 #[test]
 fn runs_keep_their_samples_by_any_loops(rt: HostRuntime) -> Result<(), Fail> {
-    assert_eq!(rt; first_unlike_run(&rt, rt.alloc()), None);
+    for at in 0..8usize {
+        assert_eq!(rt; (at, row_runs(&rt, rt.alloc(), &ROWS[at])), (at, true));
+    }
     Ok(())
 }
 
@@ -220,16 +215,12 @@ const LONG_DRIVER: RunRow<'static> = RunRow {
     kept: Kept::One(&[100, 100, -100, -100]),
 };
 
-// Whether the nodes of two threads meet, and those of one do not, nor a node without a link.
-fn all_meet<R: Threads + Wait + Sync>(rt: &R, alloc: Global) -> bool {
-    meet_in(rt, alloc, &AT_ONCE) == Some(true)
-        && meet_in(rt, alloc, &LATE) == Some(true)
-        && meet_in(rt, alloc, &ONE_THREAD) == Some(false)
-        && meet_in(rt, alloc, &LONG_DRIVER) == Some(false)
-}
-
+// The nodes of two threads meet, and those of one do not, nor a node without a link.
 #[test]
 fn nodes_of_two_threads_meet(rt: HostRuntime) -> Result<(), Fail> {
-    assert!(rt; all_meet(&rt, rt.alloc()));
+    assert_eq!(rt; meet_in(&rt, rt.alloc(), &AT_ONCE), Some(true));
+    assert_eq!(rt; meet_in(&rt, rt.alloc(), &LATE), Some(true));
+    assert_eq!(rt; meet_in(&rt, rt.alloc(), &ONE_THREAD), Some(false));
+    assert_eq!(rt; meet_in(&rt, rt.alloc(), &LONG_DRIVER), Some(false));
     Ok(())
 }

@@ -29,22 +29,17 @@ fn driver_waited<R: Wait>(rt: &R, ways: &Ways, way: &mut Way) -> (bool, u32, u64
     (look.called, look.spins, way.rested())
 }
 
-// The wait of a loop that has taken its number since it was called, so that its token is all that
-// is there.
-fn not_called<R: Wait>(rt: &R, alloc: Global) -> Option<(bool, u32, u64)> {
+// The wait of a loop that is called before it looks; where it takes its number first, its token is
+// all that is there.
+fn called<R: Wait>(rt: &R, alloc: Global, takes: bool) -> Option<(bool, u32, u64)> {
     let (ways, mut driver, mut first, _second) = row_ways(alloc)?;
     ways.forward(rt, &mut driver, 1);
-    let taken = [ways.receive(rt, &mut first), ways.receive(rt, &mut first)];
-    if taken != [Some(0), None] {
-        return None;
+    if takes {
+        let taken = [ways.receive(rt, &mut first), ways.receive(rt, &mut first)];
+        if taken != [Some(0), None] {
+            return None;
+        }
     }
-    Some(waited(rt, &ways, &mut first))
-}
-
-// The wait of a loop that is called before it looks.
-fn called<R: Wait>(rt: &R, alloc: Global) -> Option<(bool, u32, u64)> {
-    let (ways, mut driver, mut first, _second) = row_ways(alloc)?;
-    ways.forward(rt, &mut driver, 1);
     Some(waited(rt, &ways, &mut first))
 }
 
@@ -57,8 +52,8 @@ fn driver_called<R: Wait>(rt: &R, alloc: Global) -> Option<(bool, u32, u64)> {
 
 #[test]
 fn who_is_not_called_rests_once(rt: HostRuntime) -> Result<(), Fail> {
-    assert_eq!(rt; not_called(&rt, rt.alloc()), Some((false, 256, 1)));
-    assert_eq!(rt; called(&rt, rt.alloc()), Some((true, 0, 0)));
+    assert_eq!(rt; called(&rt, rt.alloc(), true), Some((false, 256, 1)));
+    assert_eq!(rt; called(&rt, rt.alloc(), false), Some((true, 0, 0)));
     assert_eq!(rt; driver_called(&rt, rt.alloc()), Some((true, 0, 1)));
     Ok(())
 }
