@@ -115,8 +115,17 @@ fn squares_meet<R: Threads + Wait + Sync>(
 // the driver's thread runs both.
 #[test]
 fn a_loop_that_cannot_be_started_is_the_drivers(rt: HostRuntime) -> Result<(), Fail> {
-    assert_eq!(rt; squares_meet(&rt, rt.alloc(), &[true, false], 2), Some(true));
-    assert_eq!(rt; squares_meet(&rt, rt.alloc(), &[true, false], 1), Some(false));
-    assert_eq!(rt; squares_meet(&rt, rt.alloc(), &[false, true], 0), Some(false));
+    assert_eq!(rt;
+        squares_meet(&rt, rt.alloc(), &[true, false], 2),
+        Some(true)
+    );
+    assert_eq!(rt;
+        squares_meet(&rt, rt.alloc(), &[true, false], 1),
+        Some(false)
+    );
+    assert_eq!(rt;
+        squares_meet(&rt, rt.alloc(), &[false, true], 0),
+        Some(false)
+    );
     Ok(())
 }

@@ -162,8 +162,9 @@ const ROWS: [RunRow<'static>; 8] = [
 
 #[test]
 fn runs_keep_their_samples_by_any_loops(rt: HostRuntime) -> Result<(), Fail> {
-    for at in 0..8usize {
-        assert_eq!(rt; (at, row_runs(&rt, rt.alloc(), &ROWS[at])), (at, true));
+    let rows = ROWS.as_slice();
+    for at in 0..rows.len() {
+        assert_eq!(rt; (at, row_runs(&rt, rt.alloc(), &rows[at])), (at, true));
     }
     Ok(())
 }
