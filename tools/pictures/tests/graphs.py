@@ -80,7 +80,7 @@ def kinds(asking: Asking) -> None:
     dot = asking.drawn("graph", asking.file("s", KINDS))
     wanted = ["q square 48000 2 100 8000 out", 's source a"b\\\\{c}|<d>&e.wav out', "in g gain -128 loop 3 out",
               "a m mix2 256 -1 out b", "in d delay 480 out", "in p map 2 1,0 off at the end out",
-               "in t split left right",
+              "in t split left right",
               "in o sink 0123456789abcde..pqrstuvwxyz.wav driver 7", "in l meter"]
     asking.same("nodes", wanted, nodes_of(dot))
     links = [line[5:] for line in KINDS.split("\n") if line.startswith("link ")]
